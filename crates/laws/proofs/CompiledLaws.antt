@@ -1,0 +1,36 @@
+-- Demand 3, of every table that 01 accepts.
+use Prim.Native.Nat.{ℕ, _-_, _*_, _≤_, max}
+use mathlib.Core.Path.{sym, subst}
+use mathlib.Core.List.{List}
+use native.Mathlib.Omega.{arith}
+use lib.ListN.{length}
+use Rattle.rules.specs.Cell.{cells}
+use Rattle.rules.specs.Limits.{Limits}
+use Rattle.rules.specs.Stage.{compiled}
+use Rattle.rules.specs.Demands.{Table, compiledRecords, Compiled}
+use Rattle.laws.proofs.RunLaws.{tree-run}
+use Rattle.laws.proofs.TreeLaws.{RecordsOk, length-records, size-pos, made-records}
+use Rattle.laws.proofs.ByteLaws.{networkRecords-bytes, networkSound-bytes}
+use Rattle.laws.proofs.StageLaws.{compiled-ok}
+use Rattle.laws.proofs.SizeLaws.{compiled-size}
+use Rattle.laws.proofs.FuelLaws.{every-stage}
+
+module _ (ks : List ℕ) (m : ℕ) (l : Limits) (t : Table ks m l) where
+  most : length (compiledRecords ks m l) ≤ max 1 (3 * cells ks - 5)
+  most = subst (λ (n : ℕ). n ≤ max 1 (3 * cells ks - 5)) (sym (length-records (compiled ks m l) 0)) (compiled-size ks m l (t .positive))
+
+  some : 1 ≤ length (compiledRecords ks m l)
+  some = subst (λ (n : ℕ). 1 ≤ n) (sym (length-records (compiled ks m l) 0)) (size-pos (compiled ks m l))
+
+  ok : RecordsOk ks m 0 (compiledRecords ks m l)
+  ok = made-records ks m (compiled ks m l) 0 (compiled-ok ks m l t .made)
+
+  pub compiled-all : Compiled ks m l
+  compiled-all =
+      record {
+        within = λ c hc. rw (networkRecords-bytes ks (t .few-values) m (compiledRecords ks m l) ok, tree-run (compiled ks m l) ks c) (compiled-ok ks m l t .within c hc);
+        sound = networkSound-bytes ks (t .few-values) m (compiledRecords ks m l) ok some (omega (arith, most, t .few-cells));
+        one = λ e. omega (arith, most, some);
+        most = λ h. omega (arith, most);
+        stages = every-stage ks m l t;
+      }

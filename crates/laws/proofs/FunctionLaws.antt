@@ -1,0 +1,109 @@
+-- The function that a stage's network computes, from those of the stages that it starts: what the work buffer holds.
+use Prim.Native.Nat.{ℕ, zero, suc, _+_, _-_, _*_, _≤_, _<_}
+use mathlib.Core.Path.{_≡_, refl, sym, _∙_, ap, ap₂, subst}
+use mathlib.Core.List.{List}
+use native.Mathlib.Omega.{arith}
+use Rattle.laws.proofs.TableLaws.{tabulate-same}
+use Rattle.laws.proofs.CellLaws.{Sub, sub-without, value-lt, without-pos}
+use Rattle.laws.proofs.LowestLaws.{no-width, lowest-digit, lowest-rest}
+use Rattle.laws.proofs.TreeLaws.{Made, computed-at, computed-remap}
+use Rattle.laws.proofs.StageLaws.{Ready, left-shrunk, left-ready, left-ok, network-ok, admitted, first-ok, second-ok, cofactor-ok, cofactor-lt, split-at, literal-grade}
+use Rattle.laws.proofs.FuelLaws.{network-left}
+use Rattle.rules.specs.Bytes.{at, tabulate}
+use Rattle.rules.specs.Cell.{Positive, cells, card, width, lowest, value, remap, singleton, without, moved}
+use Rattle.rules.specs.Network.{combine}
+use Rattle.rules.specs.Tree.{Tree, treeGrade}
+use Rattle.rules.specs.Stage.{Stage, left, Choice, split, joining, chosen, firstStage, secondStage, cofactorStage, computed, choiceTree, leftTree, treeOf}
+use Rattle.rules.specs.declared.Gate.{Gate}
+
+-- over fewer conditions, and moved
+pub computed-moved : (a b : List ℕ) (m : ℕ) (n : Tree) → Positive a → Positive b → Sub b a → Made b m n → computed a n ≡ moved b a (computed b n)
+computed-moved a b m n p q s h = tabulate-same (cells a) _ _ (λ c hc. sym (computed-remap a b m n c p q s h))
+
+module _ (m : ℕ) (x : Stage) (r : Ready m x) where
+  abbrev y : Stage
+  y = left x
+
+  ry : Ready m y
+  ry = left-ready m x r
+
+  left-made : Made (y .ks) m (treeOf m x)
+  left-made =
+      subst (Made (y .ks) m) (sym (network-left m x (r .pos)))
+      (left-ok m (treeOf m) (width (y .ks)) (λ z h q. network-ok m z q) y (omega arith) ry (width (y .ks)) refl .made)
+
+  -- 1. the conditions dropped
+  pub spread : computed (x .ks) (treeOf m x) ≡ moved (y .ks) (x .ks) (computed (y .ks) (treeOf m x))
+  spread = let d = left-shrunk x (r .pos) in computed-moved (x .ks) (y .ks) m (treeOf m x) (r .pos) (d .pos) (d .sub) left-made
+
+  -- 2. none or one left: the lower grades
+  leaf-grade : (n : ℕ) → width (y .ks) ≡ n → n ≤ 1 → (c : ℕ) → c < cells (y .ks) → treeGrade (leftTree m (treeOf m) n y) (value (y .ks) c) ≡ at (y .limits .lower) c
+  leaf-grade zero e h c hc = ap (at (y .limits .lower)) (omega (arith, no-width (y .ks) (ry .pos) e))
+  leaf-grade (suc zero) e h c hc = literal-grade y c (ry .pos) e hc
+  leaf-grade (suc (suc n)) e h c hc = absurd (omega arith)
+
+  pub leaf : width (y .ks) ≤ 1 → computed (y .ks) (treeOf m x) ≡ tabulate (cells (y .ks)) (at (y .limits .lower))
+  leaf h =
+      ap (computed (y .ks)) (network-left m x (r .pos))
+      ∙ tabulate-same (cells (y .ks)) _ _ (λ c hc. leaf-grade (width (y .ks)) refl h c hc)
+
+  -- two or more left
+  chosen-tree : 2 ≤ width (y .ks) → (ch : Choice) → chosen m y ≡ ch → treeOf m x ≡ choiceTree m (treeOf m) ch y
+  chosen-tree h ch e = network-left m x (r .pos) ∙ go (width (y .ks)) h ∙ ap (λ (q : Choice). choiceTree m (treeOf m) q y) e
+    where
+      go : (n : ℕ) → 2 ≤ n → leftTree m (treeOf m) n y ≡ choiceTree m (treeOf m) (chosen m y) y
+      go zero h = absurd (omega arith)
+      go (suc zero) h = absurd (omega arith)
+      go (suc (suc n)) h = refl
+
+  -- 5. the gate of the two blocks' functions, through the cell map
+  module _ (h : 2 ≤ width (y .ks)) (op : Gate) (s t : ℕ) (e : chosen m y ≡ joining op s t) where
+    abbrev A : Stage
+    A = firstStage m op s t y
+
+    -- g, at the cells of the conditions left
+    pub first-moved : computed (y .ks) (treeOf m A) ≡ moved (A .ks) (y .ks) (computed (A .ks) (treeOf m A))
+    first-moved =
+        computed-moved (y .ks) (A .ks) m (treeOf m A) (ry .pos) (without-pos t (y .ks) (ry .pos)) (sub-without t (y .ks))
+        (first-ok m (treeOf m) (width (y .ks)) (λ z h q. network-ok m z q) y (omega arith) ry op s t (admitted m y op s t e) .made)
+
+    abbrev B : Stage
+    B = secondStage m op s t y (computed (y .ks) (treeOf m A))
+
+    pub second-moved : computed (y .ks) (treeOf m B) ≡ moved (B .ks) (y .ks) (computed (B .ks) (treeOf m B))
+    second-moved =
+        computed-moved (y .ks) (B .ks) m (treeOf m B) (ry .pos) (without-pos s (y .ks) (ry .pos)) (sub-without s (y .ks))
+        (second-ok m (treeOf m) (width (y .ks)) (λ z h q. network-ok m z q) y (omega arith) ry op s t (admitted m y op s t e) .made)
+
+    pub joined : computed (y .ks) (treeOf m x)
+        ≡ tabulate (cells (y .ks)) (λ c. combine op (at (moved (A .ks) (y .ks) (computed (A .ks) (treeOf m A))) c) (at (moved (B .ks) (y .ks) (computed (B .ks) (treeOf m B))) c))
+    joined =
+        ap (computed (y .ks)) (chosen-tree h (joining op s t) e)
+        ∙ tabulate-same (cells (y .ks)) _ _
+        (λ c hc.
+        ap₂ (combine op)
+        (sym (computed-at (y .ks) (treeOf m A) c hc) ∙ ap (λ (l : List ℕ). at l c) first-moved)
+        (sym (computed-at (y .ks) (treeOf m B) c hc) ∙ ap (λ (l : List ℕ). at l c) second-moved))
+
+  -- 6. at the cells with value k, the function of the stage for k
+  module _ (h : 2 ≤ width (y .ks)) (e : chosen m y ≡ split) where
+    abbrev i : ℕ
+    i = lowest (y .ks)
+
+    abbrev b : List ℕ
+    b = without (singleton i) (y .ks)
+
+    split-cofactor : (c : ℕ) → c < cells (y .ks) → at (computed (y .ks) (treeOf m x)) c ≡ at (computed b (treeOf m (cofactorStage (value (y .ks) c i) y))) (remap (y .ks) b c)
+    split-cofactor c hc =
+        let k = value (y .ks) c i in
+        let hk : k < card (y .ks) i = value-lt (y .ks) c i (ry .pos) in
+        computed-at (y .ks) (treeOf m x) c hc
+        ∙ ap (λ (n : Tree). treeGrade n (value (y .ks) c)) (chosen-tree h split e)
+        ∙ split-at m (treeOf m) (width (y .ks)) (λ z h q. network-ok m z q) y (omega arith) ry (omega arith) (value (y .ks) c) hk
+        ∙ sym (computed-remap (y .ks) b m (treeOf m (cofactorStage k y)) c (ry .pos) (without-pos (singleton i) (y .ks) (ry .pos)) (sub-without (singleton i) (y .ks))
+        (cofactor-ok m (treeOf m) (width (y .ks)) (λ z h q. network-ok m z q) y (omega arith) ry (omega arith) k hk .made))
+
+    pub splitted : (k c : ℕ) → k < card (y .ks) i → c < cells b → at (computed (y .ks) (treeOf m x)) (k + card (y .ks) i * c) ≡ at (computed b (treeOf m (cofactorStage k y))) c
+    splitted k c hk hc =
+        split-cofactor (k + card (y .ks) i * c) (cofactor-lt y (ry .pos) (omega arith) k c hk hc)
+        ∙ ap₂ (λ (j d : ℕ). at (computed b (treeOf m (cofactorStage j y))) d) (lowest-digit (y .ks) k c (ry .pos) (omega arith) hk hc) (lowest-rest (y .ks) k c (ry .pos) (omega arith) hk hc)

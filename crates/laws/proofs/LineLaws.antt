@@ -1,0 +1,264 @@
+-- What the loops compute: over one condition, over a set, a value, a cell with one value put, and the cell map, digit by digit.
+use Prim.Native.Nat.{ℕ, zero, suc, _+_, _-_, _*_, _/_, _%_, _≤_, _<_}
+use mathlib.Core.Path.{_≡_, refl, sym, _∙_, ap, ap₂, subst}
+use mathlib.Core.Bool.{Bool, true, false, not, cond, _||_}
+use mathlib.Core.List.{List, [], _∷_}
+use mathlib.Core.Logic.{_⊎_, inl, inr, ⊎-elim}
+use native.Mathlib.Nat.{le-refl, add-assoc, mul-comm, mul-assoc, mul-add, mul-pos, mod-lt, mod-one, div-one, mod-eq-of-lt, div-div-eq-div-mul, not-suc-le-zero, le-of-suc-le-suc, eq-or-lt-of-le, mod-add-div}
+use native.Mathlib.Omega.{arith}
+use lib.Dec.{T, eqb, eqb→eq, eqb-refl}
+use lib.ListN.{length, take}
+use Rattle.rules.specs.Bytes.{pick, at, numbersFrom}
+use Rattle.rules.specs.Cell.{Positive, cells, card, lowest, width, step, value, cell, remap, put, has, insert, singleton, without, agreeOutside, over, overTo}
+use Rattle.rules.specs.Demands.{Subset}
+use Rattle.laws.proofs.OverLaws.{Bound, agree-part, over-at, over-self, over-bound, overTo-at, overTo-both, subset}
+use Rattle.laws.proofs.TableLaws.{at-tabulate, tabulate-same}
+use Rattle.laws.proofs.TestLaws.{and-i, by-test, cond-ok}
+use Rattle.laws.proofs.UnionLaws.{digit-mod, digit-div, digit-below, cover, over-over}
+use Rattle.laws.proofs.SetLaws.{has-same, has-keep, has-none, insert-has, singleton-has}
+use Rattle.laws.proofs.CellLaws.{div-below, cell-lt, value-lt, value-cell, value-inj, agree-value, value-agree, card-out, without-pos}
+use Rattle.laws.proofs.LowestLaws.{lowest-cells, lowest-digit, lowest-rest}
+
+-- a cell with one value put
+pub put-lt : (ks : List ℕ) (c i v : ℕ) → Positive ks → c < cells ks → v < card ks i → put ks c i v < cells ks
+put-lt [] c i v p hc hv = hc
+put-lt (k ∷ ks) c zero v p hc hv = digit-below k v (c / k) (cells ks) hv (div-below c k (cells ks) (p .0) hc)
+put-lt (k ∷ ks) c (suc i) v p hc hv =
+    digit-below k (c % k) _ (cells ks) (mod-lt c (p .0)) (put-lt ks (c / k) i v (p .1) (div-below c k (cells ks) (p .0) hc) hv)
+
+pub put-same : (ks : List ℕ) (c i v : ℕ) → Positive ks → v < card ks i → value ks (put ks c i v) i ≡ v
+put-same [] c i v p hv = omega arith
+put-same (k ∷ ks) c zero v p hv = digit-mod k v (c / k) hv
+put-same (k ∷ ks) c (suc i) v p hv =
+    rw (digit-div k (c % k) (put ks (c / k) i v) (mod-lt c (p .0))) (put-same ks (c / k) i v (p .1) hv)
+
+pub put-other : (ks : List ℕ) (c i j v : ℕ) → Positive ks → v < card ks i → (j ≡ i → ⊥) → value ks (put ks c i v) j ≡ value ks c j
+put-other [] c i j v p hv ne = refl
+put-other (k ∷ ks) c zero zero v p hv ne = absurd (ne refl)
+put-other (k ∷ ks) c zero (suc j) v p hv ne = ap (λ (x : ℕ). value ks x j) (digit-div k v (c / k) hv)
+put-other (k ∷ ks) c (suc i) zero v p hv ne = digit-mod k (c % k) (put ks (c / k) i v) (mod-lt c (p .0))
+put-other (k ∷ ks) c (suc i) (suc j) v p hv ne =
+    ap (λ (x : ℕ). value ks x j) (digit-div k (c % k) (put ks (c / k) i v) (mod-lt c (p .0)))
+    ∙ put-other ks (c / k) i j v (p .1) hv (λ e. ne (ap suc e))
+
+pub put-self : (ks : List ℕ) (c i : ℕ) → put ks c i (value ks c i) ≡ c
+put-self [] c i = refl
+put-self (k ∷ ks) c zero = mod-add-div c k
+put-self (k ∷ ks) c (suc i) = ap (λ (x : ℕ). c % k + k * x) (put-self ks (c / k) i) ∙ mod-add-div c k
+
+-- by steps
+pub step-pos : (ks : List ℕ) (i : ℕ) → Positive ks → 0 < step ks i
+step-pos [] i p = le-refl 1
+step-pos (k ∷ ks) zero p = le-refl 1
+step-pos (k ∷ ks) (suc i) p = mul-pos (p .0) (step-pos ks i (p .1))
+
+pub step-next : (ks : List ℕ) (i : ℕ) → step ks (suc i) ≡ step ks i * card ks i
+step-next [] i = refl
+step-next (k ∷ []) zero = omega arith
+step-next (k ∷ l ∷ ks) zero = omega arith
+step-next (k ∷ ks) (suc i) = ap (λ (x : ℕ). k * x) (step-next ks i) ∙ sym (mul-assoc k (step ks i) (card ks i))
+
+pub step-all : (ks : List ℕ) (i : ℕ) → length ks ≤ i → step ks i ≡ cells ks
+step-all [] i h = refl
+step-all (k ∷ ks) zero h = absurd (not-suc-le-zero h)
+step-all (k ∷ ks) (suc i) h = ap (λ (x : ℕ). k * x) (step-all ks i (le-of-suc-le-suc h))
+
+-- the value of condition i: c / step % card
+pub value-step : (ks : List ℕ) (c i : ℕ) → value ks c i ≡ c / step ks i % card ks i
+value-step [] c i = sym (mod-one (c / 1))
+value-step (k ∷ ks) c zero = ap (λ (x : ℕ). x % k) (sym (div-one c))
+value-step (k ∷ ks) c (suc i) = value-step ks (c / k) i ∙ ap (λ (x : ℕ). x % card ks i) (div-div-eq-div-mul c k (step ks i))
+
+mod-mul : (c k w : ℕ) → 0 < k → 0 < w → c % (k * w) ≡ c % k + k * (c / k % w)
+mod-mul c k w p q =
+    ap (λ (x : ℕ). x % (k * w)) (sym split)
+    ∙ digit-mod (k * w) (c % k + k * (c / k % w)) (c / k / w) (digit-below k (c % k) (c / k % w) w (mod-lt c p) (mod-lt (c / k) q))
+  where
+    split : c % k + k * (c / k % w) + k * w * (c / k / w) ≡ c
+    split =
+        add-assoc (c % k) (k * (c / k % w)) (k * w * (c / k / w))
+        ∙ ap (λ (x : ℕ). c % k + x) (ap (λ (x : ℕ). k * (c / k % w) + x) (mul-assoc k w (c / k / w)) ∙ sym (mul-add k (c / k % w) (w * (c / k / w))) ∙ ap (λ (x : ℕ). k * x) (mod-add-div (c / k) w))
+        ∙ mod-add-div c k
+
+-- the cell with value v put: c % step + step × (v + card × (c / step / card))
+pub put-step : (ks : List ℕ) (c i v : ℕ) → Positive ks → v < card ks i → put ks c i v ≡ c % step ks i + step ks i * (v + card ks i * (c / step ks i / card ks i))
+put-step [] c i v p h = rw (mod-one c, div-one c, div-one c) (omega arith)
+put-step (k ∷ ks) c zero v p h = rw (mod-one c, div-one c) (omega arith)
+put-step (k ∷ ks) c (suc i) v p h =
+    ap (λ (x : ℕ). c % k + k * x) (put-step ks (c / k) i v (p .1) h)
+    ∙ ap (λ (x : ℕ). c % k + k * (c / k % step ks i + step ks i * (v + card ks i * (x / card ks i)))) (div-div-eq-div-mul c k (step ks i))
+    ∙ ap (λ (x : ℕ). c % k + x) (mul-add k (c / k % step ks i) _ ∙ ap (λ (x : ℕ). k * (c / k % step ks i) + x) (sym (mul-assoc k (step ks i) _)))
+    ∙ sym (add-assoc (c % k) (k * (c / k % step ks i)) _)
+    ∙ ap (λ (x : ℕ). x + k * step ks i * (v + card ks i * (c / (k * step ks i) / card ks i))) (sym (mod-mul c k (step ks i) (p .0) (step-pos ks i (p .1))))
+
+-- the cell map's loop: one place more of b, the rest of the cell of a being c / step
+cell-next : (b : List ℕ) (i : ℕ) (v : ℕ → ℕ) → i < length b → cell (take (suc i) b) v ≡ cell (take i b) v + v i % card b i * step b i
+cell-next [] i v h = absurd (not-suc-le-zero h)
+cell-next (l ∷ ls) zero v h = omega arith
+cell-next (l ∷ ls) (suc i) v h = more (v 0 % l) l (v (suc i) % card ls i) (step ls i) (cell (take i ls) (λ j. v (suc j))) _ (cell-next ls i (λ j. v (suc j)) (le-of-suc-le-suc h))
+  where
+    more : (a l q w x y : ℕ) → y ≡ x + q * w → a + l * y ≡ a + l * x + q * (l * w)
+    more a l q w x y e =
+        ap (λ (z : ℕ). a + l * z) e
+        ∙ ap (λ (z : ℕ). a + z) (mul-add l x (q * w) ∙ ap (λ (z : ℕ). l * x + z) (sym (mul-assoc l q w) ∙ ap (λ (z : ℕ). z * w) (mul-comm l q) ∙ mul-assoc q l w))
+        ∙ sym (add-assoc a (l * x) (q * (l * w)))
+
+pub remap-next : (a b : List ℕ) (c i : ℕ) → i < length b
+    → cell (take (suc i) b) (value a c) ≡ cell (take i b) (value a c) + c / step a i % card a i % card b i * step b i
+remap-next a b c i h =
+    cell-next b i (value a c) h ∙ ap (λ (x : ℕ). cell (take i b) (value a c) + x % card b i * step b i) (value-step a c i)
+
+pub rest-next : (a : List ℕ) (c i : ℕ) → c / step a i / card a i ≡ c / step a (suc i)
+rest-next a c i = div-div-eq-div-mul c (step a i) (card a i) ∙ ap (λ (x : ℕ). c / x) (sym (step-next a i))
+
+-- the cells equal to c outside condition i are those with a value put there
+pub agree-put : (ks : List ℕ) (c i v : ℕ) → Positive ks → v < card ks i → T (agreeOutside ks (singleton i) c (put ks c i v))
+agree-put ks c i v p hv =
+    value-agree ks (singleton i) c (put ks c i v) (λ j n. sym (put-other ks c i j v p hv (λ e. n (subst (λ (x : ℕ). T (has (singleton i) x)) (sym e) (has-same 0 i)))))
+
+pub put-agree : (ks : List ℕ) (c d i : ℕ) → Positive ks → c < cells ks → d < cells ks → T (agreeOutside ks (singleton i) c d) → put ks c i (value ks d i) ≡ d
+put-agree ks c d i p hc hd a =
+    value-inj ks p _ d (put-lt ks c i (value ks d i) p hc (value-lt ks d i p)) hd
+    (λ j.
+    by-test (eqb j i) (λ y. subst (λ (x : ℕ). value ks (put ks c i (value ks d i)) x ≡ value ks d x) (sym (eqb→eq j i y)) (put-same ks c i (value ks d i) p (value-lt ks d i p)))
+    (λ n.
+    let ne : j ≡ i → ⊥ = λ e. n (subst (λ (x : ℕ). T (eqb j x)) e (eqb-refl j)) in
+    put-other ks c i j (value ks d i) p (value-lt ks d i p) ne ∙ agree-value ks (singleton i) c d j a (λ t. ne (singleton-has i j t))))
+
+-- 6. the cells where the lowest condition is k: the other values of c, and k put
+pub cofactor-put : (ks : List ℕ) (k c : ℕ) → Positive ks → 1 ≤ width ks → k < card ks (lowest ks) → c < cells (without (singleton (lowest ks)) ks)
+    → put ks (remap (without (singleton (lowest ks)) ks) ks c) (lowest ks) k ≡ k + card ks (lowest ks) * c
+cofactor-put ks k c p w hk hc =
+    value-inj ks p _ d (put-lt ks (remap b ks c) i k p (cell-lt ks (value b c) p) hk) (rw (← (lowest-cells ks p w)) (digit-below (card ks i) k c (cells b) hk hc))
+    (λ j.
+    by-test (eqb j i) (λ y. subst (λ (x : ℕ). value ks (put ks (remap b ks c) i k) x ≡ value ks d x) (sym (eqb→eq j i y)) (put-same ks (remap b ks c) i k p hk ∙ sym (lowest-digit ks k c p w hk hc)))
+    (λ n.
+    let ne : j ≡ i → ⊥ = λ e. n (subst (λ (x : ℕ). T (eqb j x)) e (eqb-refl j)) in
+    put-other ks (remap b ks c) i j k p hk ne ∙ other j ne))
+  where
+    i : ℕ
+    i = lowest ks
+
+    b : List ℕ
+    b = without (singleton i) ks
+
+    d : ℕ
+    d = k + card ks i * c
+
+    other : (j : ℕ) → (j ≡ i → ⊥) → value ks (remap b ks c) j ≡ value ks d j
+    other j ne =
+        value-cell ks (value b c) j p
+        ∙ ap (λ (x : ℕ). x % card ks j)
+        (ap (λ (x : ℕ). value b x j) (sym (lowest-rest ks k c p w hk hc))
+        ∙ value-cell b (value ks d) j (without-pos (singleton i) ks p)
+        ∙ ap (λ (x : ℕ). value ks d j % x) (card-out (singleton i) ks j (λ t. ne (singleton-has i j t)))
+        ∙ mod-eq-of-lt (value-lt ks d j p))
+        ∙ mod-eq-of-lt (value-lt ks d j p)
+
+-- a set within the shape, by its conditions
+part-in : (ks : List ℕ) (s t : ℕ) → ((i : ℕ) → i < length ks → T (has s i) → T (has t i)) → T (subset ks s t)
+part-in [] s t h = tt
+part-in (k ∷ ks) s t h =
+    and-i (not (eqb (s % 2) 1) || eqb (t % 2) 1) (subset ks (s / 2) (t / 2)) (go (eqb (s % 2) 1) (eqb (t % 2) 1) (h 0 (omega arith))) (part-in ks (s / 2) (t / 2) (λ i l. h (suc i) (omega arith)))
+  where
+    go : (a b : Bool) → (T a → T b) → T (not a || b)
+    go true b f = f tt
+    go false b f = tt
+
+cover-in : (ks : List ℕ) (w s t : ℕ) → ((i : ℕ) → T (has w i) → T (has s i) ⊎ T (has t i)) → T (cover ks w s t)
+cover-in [] w s t h = tt
+cover-in (k ∷ ks) w s t h =
+    and-i (not (eqb (w % 2) 1) || (eqb (s % 2) 1 || eqb (t % 2) 1)) (cover ks (w / 2) (s / 2) (t / 2)) (go (eqb (w % 2) 1) (eqb (s % 2) 1) (eqb (t % 2) 1) (h 0)) (cover-in ks (w / 2) (s / 2) (t / 2) (λ i. h (suc i)))
+  where
+    go : (a b c : Bool) → (T a → T b ⊎ T c) → T (not a || (b || c))
+    go false b c f = tt
+    go true true c f = tt
+    go true false true f = tt
+    go true false false f = ⊎-elim (λ x. x) (λ x. x) (f tt)
+
+module _ {op : ℕ → ℕ → ℕ} {R : ℕ → ℕ → Type 0} (B : Bound op R) where
+  -- over one condition: along the line of its values
+  pub over-line : (ks : List ℕ) (f : List ℕ) (i c : ℕ) → Positive ks → c < cells ks
+      → at (over op ks (singleton i) f) c ≡ overTo op (λ v. true) (λ v. at f (put ks c i v)) (at f c) (card ks i)
+  over-line ks f i c p hc =
+      B .anti
+      (over-bound B ks (singleton i) f c _ hc
+      (λ d hd a. subst (λ (x : ℕ). R (at f x) (overTo op (λ v. true) (λ v. at f (put ks c i v)) (at f c) (card ks i))) (put-agree ks c d i p hc hd a)
+      (overTo-at B (λ v. true) (λ v. at f (put ks c i v)) (at f c) (card ks i) (value ks d i) (value-lt ks d i p) tt)))
+      (overTo-both B (λ v. true) (λ v. at f (put ks c i v)) (at f c) _ (card ks i) (over-self B ks (singleton i) f c hc)
+      (λ v hv t. over-at B ks (singleton i) f c (put ks c i v) hc (put-lt ks c i v p hc hv) (agree-put ks c i v p hv)))
+
+  -- over no condition
+  pub over-none : (ks : List ℕ) (f : List ℕ) (c : ℕ) → Positive ks → c < cells ks → at (over op ks 0 f) c ≡ at f c
+  over-none ks f c p hc =
+      B .anti
+      (over-bound B ks 0 f c (at f c) hc
+      (λ d hd a. subst (λ (x : ℕ). R (at f x) (at f c)) (value-inj ks p c d hc hd (λ j. agree-value ks 0 c d j a (has-none j))) (B .self (at f c))))
+      (over-self B ks 0 f c hc)
+
+  -- tables that are equal at every cell
+  pub over-same : (ks : List ℕ) (t : ℕ) (f g : List ℕ) → ((c : ℕ) → c < cells ks → at f c ≡ at g c) → over op ks t f ≡ over op ks t g
+  over-same ks t f g eq = tabulate-same (cells ks) _ _ (λ c hc. go c hc (cells ks) (le-refl _))
+    where
+      go : (c : ℕ) → c < cells ks → (n : ℕ) → n ≤ cells ks → overTo op (agreeOutside ks t c) (at f) (at f c) n ≡ overTo op (agreeOutside ks t c) (at g) (at g c) n
+      go c hc zero h = eq c hc
+      go c hc (suc n) h = ap₂ op (go c hc n (omega arith)) (ap₂ (pick (agreeOutside ks t c n)) (eq n (omega arith)) (eq c hc))
+
+  over-ext : (ks : List ℕ) (s t : ℕ) (f g : List ℕ) → ((c : ℕ) → c < cells ks → at (over op ks s f) c ≡ at (over op ks t g) c) → over op ks s f ≡ over op ks t g
+  over-ext ks s t f g h = tabulate-same (cells ks) _ _ (λ c hc. sym (at-tabulate (cells ks) _ c hc) ∙ h c hc ∙ at-tabulate (cells ks) _ c hc)
+
+  -- sets with the same conditions of the shape
+  pub over-sets : (ks : List ℕ) (s t : ℕ) (f : List ℕ) → T (subset ks s t) → T (subset ks t s) → over op ks s f ≡ over op ks t f
+  over-sets ks s t f p q =
+      over-ext ks s t f f
+      (λ c hc.
+      B .anti (over-bound B ks s f c _ hc (λ d hd a. over-at B ks t f c d hc hd (agree-part ks s t c d p a)))
+      (over-bound B ks t f c _ hc (λ d hd a. over-at B ks s f c d hc hd (agree-part ks t s c d q a))))
+
+  -- over a set and one condition more
+  pub over-insert : (ks : List ℕ) (f : List ℕ) (t i : ℕ) → Positive ks → over op ks (singleton i) (over op ks t f) ≡ over op ks (insert t i) f
+  over-insert ks f t i p =
+      over-ext ks (singleton i) (insert t i) (over op ks t f) f
+      (λ c hc.
+      over-over B ks (insert t i) (singleton i) t f p
+      (part-in ks (singleton i) (insert t i) (λ j l h. subst (λ (x : ℕ). T (has (insert t i) x)) (sym (singleton-has i j h)) (has-same t i)))
+      (part-in ks t (insert t i) (λ j l h. has-keep t i j h))
+      (cover-in ks (insert t i) (singleton i) t (λ j h. ⊎-elim (λ e. inl (subst (λ (x : ℕ). T (has (singleton i) x)) (sym e) (has-same 0 i))) (λ r. inr r) (insert-has t i j h)))
+      c hc)
+
+  -- over a set: one of its conditions after the other
+  abbrev pub overEach : List ℕ → ℕ → List ℕ → List ℕ → List ℕ
+  overEach ks s [] f = f
+  overEach ks s (i ∷ is) f = overEach ks s is (cond (has s i) (over op ks (singleton i) f) f)
+
+  -- u being the conditions of s before a
+  over-from : (ks : List ℕ) (s a n u : ℕ) (f : List ℕ) → Positive ks → length ks ≤ a + n → Subset u s → ((i : ℕ) → i < a → T (has s i) → T (has u i))
+      → overEach ks s (numbersFrom a n) (over op ks u f) ≡ over op ks s f
+  over-from ks s a zero u f p h pu all =
+      over-sets ks u s f (part-in ks u s (λ i l q. pu i q)) (part-in ks s u (λ i l q. all i (omega arith) q))
+  over-from ks s a (suc n) u f p h pu all =
+      cond-ok (λ (g : List ℕ). overEach ks s (numbersFrom (suc a) n) g ≡ over op ks s f) (has s a) (over op ks (singleton a) (over op ks u f)) (over op ks u f)
+      (λ b.
+      ap (overEach ks s (numbersFrom (suc a) n)) (over-insert ks f u a p)
+      ∙ over-from ks s (suc a) n (insert u a) f p (omega arith)
+      (λ i q. ⊎-elim (λ e. subst (λ (x : ℕ). T (has s x)) (sym e) b) (λ r. pu i r) (insert-has u a i q))
+      (λ i l q. ⊎-elim (λ e. subst (λ (x : ℕ). T (has (insert u a) x)) (sym e) (has-same u a)) (λ l. has-keep u a i (all i l q)) (eq-or-lt-of-le (le-of-suc-le-suc l))))
+      (λ b.
+      over-from ks s (suc a) n u f p (omega arith) pu
+      (λ i l q. ⊎-elim (λ e. absurd (b (subst (λ (x : ℕ). T (has s x)) e q))) (λ l. all i l q) (eq-or-lt-of-le (le-of-suc-le-suc l))))
+
+  -- the loop over the places, from the table itself
+  pub over-each : (ks : List ℕ) (s : ℕ) (f : List ℕ) → Positive ks → (c : ℕ) → c < cells ks → at (overEach ks s (numbersFrom 0 (length ks)) f) c ≡ at (over op ks s f) c
+  over-each ks s f p c hc =
+      each-same ks s (numbersFrom 0 (length ks)) f (over op ks 0 f) (λ d hd. sym (over-none ks f d p hd)) c hc
+      ∙ ap (λ (l : List ℕ). at l c) (over-from ks s 0 (length ks) 0 f p (omega arith) (λ i q. absurd (has-none i q)) (λ i l q. absurd (not-suc-le-zero l)))
+    where
+      each-same : (ks : List ℕ) (s : ℕ) (is : List ℕ) (f g : List ℕ) → ((c : ℕ) → c < cells ks → at f c ≡ at g c)
+          → (c : ℕ) → c < cells ks → at (overEach ks s is f) c ≡ at (overEach ks s is g) c
+      each-same ks s [] f g eq = eq
+      each-same ks s (i ∷ is) f g eq =
+          each-same ks s is _ _ (one (has s i))
+        where
+          one : (o : Bool) → (c : ℕ) → c < cells ks → at (cond o (over op ks (singleton i) f) f) c ≡ at (cond o (over op ks (singleton i) g) g) c
+          one true c hc = ap (λ (l : List ℕ). at l c) (over-same ks (singleton i) f g eq)
+          one false c hc = eq c hc

@@ -1,0 +1,344 @@
+-- Every stage's network is within its limits, and well formed.
+use Prim.Native.Nat.{ℕ, zero, suc, _+_, _-_, _*_, _≤_, _<_, min}
+use mathlib.Core.Path.{_≡_, refl, sym, _∙_, ap, subst}
+use mathlib.Core.Bool.{Bool, true, false, _&&_}
+use mathlib.Core.List.{List, [], _∷_}
+use native.Mathlib.Nat.{le-refl, le-trans}
+use native.Mathlib.Omega.{arith}
+use lib.Dec.{T, leb, eqb, leb→le, eqb→eq, eqb-refl}
+use lib.ListN.{length}
+use Rattle.rules.specs.Bytes.{at, tabulate, pick, numbersFrom}
+use Rattle.rules.specs.Cell.{Positive, cells, card, present, width, lowest, value, remap, without, singleton}
+use Rattle.rules.specs.Limits.{Limits}
+use Rattle.rules.specs.Join.{firstLimits, secondLimits}
+use Rattle.rules.specs.Tree.{Tree, fixed, lookup, treeGrade}
+use Rattle.rules.specs.Stage.{Stage, outside, computed, merged, fits, dropOne, drops, left, Choice, split, joining, chosen, firstStage, secondStage, cofactorStage, joinTree, splitPart, splitTo, choiceTree, leftTree, stageTree, treeOf, wholeTable, compiled}
+use Rattle.rules.specs.Demands.{Between, Inside, Admits, Table, StageOf, itself, first-block, second-block, cofactor}
+use Rattle.rules.specs.declared.Gate.{Gate}
+use Rattle.laws.proofs.TestLaws.{and-r, by-order, cond-ok, pick-ok}
+use Rattle.laws.proofs.TableLaws.{at-tabulate, all-at}
+use Rattle.laws.proofs.OverLaws.{max-bound, min-bound, over-self, over-blind}
+use Rattle.laws.proofs.UnionLaws.{digit-below}
+use Rattle.laws.proofs.CellLaws.{cell-lt, value-lt, Sub, sub-trans, sub-without, without-pos, without-le, without-lt, without-cells, moved-at, moved-blind}
+use Rattle.laws.proofs.LowestLaws.{no-width, lowest-two, lowest-present, lowest-fewer, lowest-cells, lowest-cell, one-cells, one-value}
+use Rattle.laws.proofs.TreeLaws.{Made, made-tabulate, made-wider, made-below, made-remap, computed-at}
+use Rattle.laws.proofs.GroupLaws.{ChoiceOf, chosen-ok}
+use Rattle.laws.proofs.GateLaws.{Good, BlindTo, first-good, first-blind, second-good, second-blind, gate-within}
+
+-- a stage that can be started
+pub record Ready (m : ℕ) (x : Stage) : Type 0 where
+  pub grades : 0 < m
+  pub pos : Positive (x .ks)
+  pub good : Good (x .ks) m (x .limits)
+
+-- a network of it
+pub record NetOk (m : ℕ) (x : Stage) (n : Tree) : Type 0 where
+  pub within : Inside (x .ks) (x .limits) (λ c. treeGrade n (value (x .ks) c))
+  pub made : Made (x .ks) m n
+
+-- fewer conditions
+module _ (m t : ℕ) (x : Stage) (l : Limits) (p : Positive (x .ks)) where
+  abbrev b : List ℕ
+  b = without t (x .ks)
+
+  pub outside-ready : 0 < m → Good (x .ks) m l → Ready m (outside t x l)
+  outside-ready h g =
+      record {
+        grades = h;
+        pos = without-pos t (x .ks) p;
+        good =
+            record {
+              room = λ c hc. rw (moved-at (x .ks) b (l .lower) c hc, moved-at (x .ks) b (l .upper) c hc) (g .room _ (cell-lt (x .ks) (value b c) p));
+              top = λ c hc. rw (moved-at (x .ks) b (l .upper) c hc) (g .top _ (cell-lt (x .ks) (value b c) p));
+            };
+      }
+
+  outside-within : BlindTo (x .ks) t l → (n : Tree) → NetOk m (outside t x l) n → Inside (x .ks) l (λ c. treeGrade n (value (x .ks) c))
+  outside-within bl n o c hc =
+      rw (moved-blind (x .ks) t (l .lower) c p (bl .lows) hc, moved-blind (x .ks) t (l .upper) c p (bl .highs) hc, made-remap (x .ks) b m n c p (without-pos t (x .ks) p) (sub-without t (x .ks)) (o .made))
+      at (o .within (remap (x .ks) b c) (cell-lt b (value (x .ks) c) (without-pos t (x .ks) p)))
+
+-- 1. Drop: the shape
+pub record Shrunk (x y : Stage) : Type 0 where
+  pub pos : Positive (y .ks)
+  pub sub : Sub (y .ks) (x .ks)
+  pub fewer : width (y .ks) ≤ width (x .ks)
+  pub less : cells (y .ks) ≤ cells (x .ks)
+
+shrunk-one : (i : ℕ) (x : Stage) → Positive (x .ks) → Shrunk x (dropOne i x)
+shrunk-one i x p =
+    cond-ok (Shrunk x) (present (x .ks) i && fits (x .ks) (merged i x)) (outside (singleton i) x (merged i x)) x
+    (λ h. record { pos = without-pos (singleton i) (x .ks) p; sub = sub-without (singleton i) (x .ks); fewer = without-le (singleton i) (x .ks); less = without-cells (singleton i) (x .ks) p })
+    (λ h. record { pos = p; sub = λ j q. refl; fewer = le-refl _; less = le-refl _ })
+
+pub drops-shrunk : (is : List ℕ) (x : Stage) → Positive (x .ks) → Shrunk x (drops is x)
+drops-shrunk [] x p = record { pos = p; sub = λ j q. refl; fewer = le-refl _; less = le-refl _ }
+drops-shrunk (i ∷ is) x p =
+    let a = shrunk-one i x p in
+    let r = drops-shrunk is (dropOne i x) (a .pos) in
+    record {
+      pos = r .pos;
+      sub = sub-trans (drops is (dropOne i x) .ks) (dropOne i x .ks) (x .ks) (r .sub) (a .sub);
+      fewer = le-trans (r .fewer) (a .fewer);
+      less = le-trans (r .less) (a .less);
+    }
+
+pub left-shrunk : (x : Stage) → Positive (x .ks) → Shrunk x (left x)
+left-shrunk x p = drops-shrunk (numbersFrom 0 (length (x .ks))) x p
+
+-- the limits
+record Dropped (m : ℕ) (x y : Stage) : Type 0 where
+  pub ready : Ready m y
+  pub back : (n : Tree) → NetOk m y n → NetOk m x n
+
+drop-one : (m i : ℕ) (x : Stage) → Ready m x → T (fits (x .ks) (merged i x)) → Dropped m x (outside (singleton i) x (merged i x))
+drop-one m i x r h =
+    record {
+      ready = outside-ready m (singleton i) x (merged i x) (r .pos) (r .grades) good;
+      back = λ n o.
+          record {
+            within = λ c hc.
+                let w = outside-within m (singleton i) x (merged i x) (r .pos) blind n o c hc in
+                (le-trans (over-self max-bound (x .ks) (singleton i) (x .limits .lower) c hc) (w .0), le-trans (w .1) (over-self min-bound (x .ks) (singleton i) (x .limits .upper) c hc));
+            made = made-wider (without (singleton i) (x .ks)) (x .ks) m n (sub-without (singleton i) (x .ks)) (o .made);
+          };
+    }
+  where
+    good : Good (x .ks) m (merged i x)
+    good =
+        record {
+          room = λ c hc. leb→le _ _ (all-at (cells (x .ks)) (λ c. leb (at (merged i x .lower) c) (at (merged i x .upper) c)) h c hc);
+          top = λ c hc. le-trans (over-self min-bound (x .ks) (singleton i) (x .limits .upper) c hc) (r .good .top c hc);
+        }
+
+    blind : BlindTo (x .ks) (singleton i) (merged i x)
+    blind = record { lows = over-blind max-bound (x .ks) (singleton i) (x .limits .lower); highs = over-blind min-bound (x .ks) (singleton i) (x .limits .upper) }
+
+drops-ok : (m : ℕ) (is : List ℕ) (x : Stage) → Ready m x → Dropped m x (drops is x)
+drops-ok m [] x r = record { ready = r; back = λ n o. o }
+drops-ok m (i ∷ is) x r =
+    let one = cond-ok (Dropped m x) (present (x .ks) i && fits (x .ks) (merged i x)) (outside (singleton i) x (merged i x)) x
+    (λ h. drop-one m i x r (and-r (present (x .ks) i) (fits (x .ks) (merged i x)) h)) (λ h. record { ready = r; back = λ n o. o }) in
+    let more = drops-ok m is (dropOne i x) (one .ready) in
+    record { ready = more .ready; back = λ n o. one .back n (more .back n o) }
+
+pub left-ready : (m : ℕ) (x : Stage) → Ready m x → Ready m (left x)
+left-ready m x r = drops-ok m (numbersFrom 0 (length (x .ks))) x r .ready
+
+-- 2. None left, one left
+below : {q u m : ℕ} → q ≤ u → u ≤ m - 1 → 0 < m → q < m
+below h g p = omega arith
+
+pub fixed-ok : (m : ℕ) (x : Stage) → Ready m x → width (x .ks) ≡ 0 → NetOk m x (fixed (at (x .limits .lower) 0))
+fixed-ok m x r e =
+    record {
+      within = λ c hc.
+          let z : c ≡ 0 = omega (arith, no-width (x .ks) (r .pos) e) in
+          subst (λ (d : ℕ). Between (x .limits) d (at (x .limits .lower) 0)) (sym z) (le-refl _, r .good .room 0 (omega (arith, no-width (x .ks) (r .pos) e)));
+      made = below (r .good .room 0 h0) (r .good .top 0 h0) (r .grades);
+    }
+  where
+    h0 : 0 < cells (x .ks)
+    h0 = omega (arith, no-width (x .ks) (r .pos) e)
+
+pub literal-grade : (x : Stage) (c : ℕ) → Positive (x .ks) → width (x .ks) ≡ 1 → c < cells (x .ks)
+    → treeGrade (lookup (lowest (x .ks)) (tabulate (card (x .ks) (lowest (x .ks))) (at (x .limits .lower)))) (value (x .ks) c) ≡ at (x .limits .lower) c
+literal-grade x c p e hc =
+    at-tabulate (card (x .ks) (lowest (x .ks))) (at (x .limits .lower)) (value (x .ks) c (lowest (x .ks))) (value-lt (x .ks) c (lowest (x .ks)) p)
+    ∙ ap (at (x .limits .lower)) (one-value (x .ks) p e c hc)
+
+literal-ok : (m : ℕ) (x : Stage) → Ready m x → width (x .ks) ≡ 1 → NetOk m x (lookup (lowest (x .ks)) (tabulate (card (x .ks) (lowest (x .ks))) (at (x .limits .lower))))
+literal-ok m x r e =
+    record {
+      within = λ c hc. subst (Between (x .limits) c) (sym (literal-grade x c (r .pos) e hc)) (le-refl _, r .good .room c hc);
+      made =
+          made-tabulate (x .ks) m (lowest (x .ks)) (at (x .limits .lower)) (r .grades) (lowest-present (x .ks) (r .pos) (omega arith))
+          (λ v hv. let h : v < cells (x .ks) = omega (arith, one-cells (x .ks) (r .pos) e) in below (r .good .room v h) (r .good .top v h) (r .grades));
+    }
+
+-- the stages that a stage starts can be started
+module _ (x : Stage) (p : Positive (x .ks)) (w : 1 ≤ width (x .ks)) (k : ℕ) where
+  abbrev sub : List ℕ
+  sub = without (singleton (lowest (x .ks))) (x .ks)
+
+  cofactor-at : (f : List ℕ) (c : ℕ) → c < cells sub → at (tabulate (cells sub) (λ c. at f (k + card (x .ks) (lowest (x .ks)) * c))) c ≡ at f (k + card (x .ks) (lowest (x .ks)) * c)
+  cofactor-at f = at-tabulate (cells sub) (λ c. at f (k + card (x .ks) (lowest (x .ks)) * c))
+
+  pub cofactor-lt : (c : ℕ) → k < card (x .ks) (lowest (x .ks)) → c < cells sub → k + card (x .ks) (lowest (x .ks)) * c < cells (x .ks)
+  cofactor-lt c hk hc = rw (← (lowest-cells (x .ks) p w)) (digit-below (card (x .ks) (lowest (x .ks))) k c (cells sub) hk hc)
+
+  pub cofactor-ready : (m : ℕ) → Ready m x → k < card (x .ks) (lowest (x .ks)) → Ready m (cofactorStage k x)
+  cofactor-ready m r hk =
+      record {
+        grades = r .grades;
+        pos = without-pos (singleton (lowest (x .ks))) (x .ks) p;
+        good =
+            record {
+              room = λ c hc. rw (cofactor-at (x .limits .lower) c hc, cofactor-at (x .limits .upper) c hc) (r .good .room _ (cofactor-lt c hk hc));
+              top = λ c hc. rw (cofactor-at (x .limits .upper) c hc) (r .good .top _ (cofactor-lt c hk hc));
+            };
+      }
+
+module _ (m : ℕ) (op : Gate) (s t : ℕ) (x : Stage) (r : Ready m x) (ad : Admits m x op s t) where
+  pub first-ready : Ready m (firstStage m op s t x)
+  first-ready = outside-ready m t x (firstLimits op (x .ks) m s t (x .limits)) (r .pos) (r .grades) (first-good (x .ks) m s t op (x .limits) (r .good) (ad .joins))
+
+  pub second-ready : (g : List ℕ) → Inside (x .ks) (firstLimits op (x .ks) m s t (x .limits)) (at g) → Ready m (secondStage m op s t x g)
+  second-ready g w =
+      outside-ready m s x (secondLimits op (x .ks) m s t (x .limits) g) (r .pos) (r .grades) (second-good (x .ks) m s t op (x .limits) g (r .good) (ad .joins) w)
+
+-- 6. the grade of a split: that of the stage for the value
+module _ (m : ℕ) (net : Stage → Tree) (x : Stage) (v : ℕ → ℕ) (low : (k : ℕ) → k < card (x .ks) (lowest (x .ks)) → treeGrade (net (cofactorStage k x)) v < m) where
+  abbrev top : ℕ
+  top = card (x .ks) (lowest (x .ks))
+
+  abbrev here : ℕ
+  here = v (lowest (x .ks))
+
+  part-grade : (k : ℕ) → here < top → k < top → ((here ≡ k → treeGrade (splitPart m net x k) v ≡ treeGrade (net (cofactorStage k x)) v) × ((here ≡ k → ⊥) → treeGrade (splitPart m net x k) v ≡ 0))
+  part-grade k hv hk =
+      rw (at-tabulate top (λ w. pick (eqb w k) (m - 1) 0) here hv)
+      (go (eqb here k) (eqb→eq here k) (λ n e. n (subst (λ (z : ℕ). T (eqb here z)) e (eqb-refl here))) (treeGrade (net (cofactorStage k x)) v) (low k hk))
+    where
+      go : (o : Bool) → (T o → here ≡ k) → ((T o → ⊥) → here ≡ k → ⊥) → (y : ℕ) → y < m
+          → (here ≡ k → min (pick o (m - 1) 0) y ≡ y) × ((here ≡ k → ⊥) → min (pick o (m - 1) 0) y ≡ 0)
+      go true f n y h = ((λ e. omega arith), (λ o. absurd (o (f tt))))
+      go false f n y h = ((λ e. absurd (n (λ z. z) e)), (λ o. omega arith))
+
+  split-to : (k : ℕ) → here < top → k < top
+      → (here ≤ k → treeGrade (splitTo m net x k) v ≡ treeGrade (net (cofactorStage here x)) v) × (k < here → treeGrade (splitTo m net x k) v ≡ 0)
+  split-to zero hv hk =
+      let q = part-grade 0 hv hk in
+      ((λ le. let e : here ≡ 0 = omega arith in q .0 e ∙ ap (λ (j : ℕ). treeGrade (net (cofactorStage j x)) v) (sym e)), (λ lt. q .1 (λ e. omega arith)))
+  split-to (suc k) hv hk =
+      let r = split-to k hv (omega arith) in
+      let q = part-grade (suc k) hv hk in (
+        (λ le.
+            by-order here k (λ a. omega (arith, r .0 a, q .1 (λ e. omega arith)))
+            (λ lt. let e : here ≡ suc k = omega arith in omega (arith, r .1 lt, q .0 e, ap (λ (j : ℕ). treeGrade (net (cofactorStage j x)) v) e))),
+        (λ lt. omega (arith, r .1 (omega arith), q .1 (λ e. omega arith))),
+      )
+
+  pub split-grade : here < top → treeGrade (splitTo m net x (top - 1)) v ≡ treeGrade (net (cofactorStage here x)) v
+  split-grade hv = split-to (top - 1) hv (omega arith) .0 (omega arith)
+
+-- what is asked of the stages with at most f conditions
+abbrev pub SubOk : ℕ → (Stage → Tree) → ℕ → Type 0
+SubOk m net f = (x : Stage) → width (x .ks) ≤ f → Ready m x → NetOk m x (net x)
+
+module _ (m : ℕ) (net : Stage → Tree) (f : ℕ) (ok : SubOk m net f) (x : Stage) (hf : width (x .ks) ≤ suc f) (r : Ready m x) where
+  -- 5. the blocks' networks
+  module _ (op : Gate) (s t : ℕ) (ad : Admits m x op s t) where
+    pub first-ok : NetOk m (firstStage m op s t x) (net (firstStage m op s t x))
+    first-ok =
+        let a = ad .sets .some-t in
+        ok _ (omega (arith, without-lt t (x .ks) (a .0) (ad .sets .in-t (a .0) (a .1)) (a .1))) (first-ready m op s t x r ad)
+
+    pub first-inside : Inside (x .ks) (firstLimits op (x .ks) m s t (x .limits)) (at (computed (x .ks) (net (firstStage m op s t x))))
+    first-inside c hc =
+        rw (computed-at (x .ks) (net (firstStage m op s t x)) c hc)
+        (outside-within m t x (firstLimits op (x .ks) m s t (x .limits)) (r .pos) (first-blind (x .ks) m s t op (x .limits)) _ first-ok c hc)
+
+    abbrev g : List ℕ
+    g = computed (x .ks) (net (firstStage m op s t x))
+
+    pub second-ok : NetOk m (secondStage m op s t x g) (net (secondStage m op s t x g))
+    second-ok =
+        let a = ad .sets .some-s in
+        ok _ (omega (arith, without-lt s (x .ks) (a .0) (ad .sets .in-s (a .0) (a .1)) (a .1))) (second-ready m op s t x r ad g first-inside)
+
+    join-ok : NetOk m x (joinTree m net op s t x)
+    join-ok =
+        record {
+          within = λ c hc.
+              rw (computed-at (x .ks) (net (firstStage m op s t x)) c hc) at
+              (gate-within (x .ks) m s t op (x .limits) g (λ c. treeGrade (net (secondStage m op s t x g)) (value (x .ks) c)) (r .good) (ad .joins) first-inside
+              (outside-within m s x (secondLimits op (x .ks) m s t (x .limits) g) (r .pos) (second-blind (x .ks) m s t op (x .limits) g) _ second-ok) c hc);
+          made = (
+            made-wider (without t (x .ks)) (x .ks) m (net (firstStage m op s t x)) (sub-without t (x .ks)) (first-ok .made),
+            made-wider (without s (x .ks)) (x .ks) m (net (secondStage m op s t x g)) (sub-without s (x .ks)) (second-ok .made),
+          );
+        }
+
+  -- 6.
+  module _ (w : 1 ≤ width (x .ks)) where
+    abbrev i : ℕ
+    i = lowest (x .ks)
+
+    pub cofactor-ok : (k : ℕ) → k < card (x .ks) i → NetOk m (cofactorStage k x) (net (cofactorStage k x))
+    cofactor-ok k hk = ok _ (omega (arith, lowest-fewer (x .ks) (r .pos) w)) (cofactor-ready x (r .pos) w k m r hk)
+
+    part-made : (k : ℕ) → k < card (x .ks) i → Made (x .ks) m (splitPart m net x k)
+    part-made k hk = (
+      made-tabulate (x .ks) m i (λ v. pick (eqb v k) (m - 1) 0) (r .grades) (lowest-present (x .ks) (r .pos) w)
+          (λ v hv. pick-ok (λ (q : ℕ). q < m) (eqb v k) (m - 1) 0 (λ o. omega (arith, r .grades)) (λ o. r .grades)),
+      made-wider (without (singleton i) (x .ks)) (x .ks) m (net (cofactorStage k x)) (sub-without (singleton i) (x .ks)) (cofactor-ok k hk .made),
+    )
+
+    splitTo-made : (k : ℕ) → k < card (x .ks) i → Made (x .ks) m (splitTo m net x k)
+    splitTo-made zero hk = part-made 0 hk
+    splitTo-made (suc k) hk = (splitTo-made k (omega arith), part-made (suc k) hk)
+
+    -- its function is that of the stage for the value
+    pub split-at : (v : ℕ → ℕ) → v i < card (x .ks) i → treeGrade (splitTo m net x (card (x .ks) i - 1)) v ≡ treeGrade (net (cofactorStage (v i) x)) v
+    split-at v hv = split-grade m net x v (λ k hk. made-below (without (singleton i) (x .ks)) m (net (cofactorStage k x)) (cofactor-ok k hk .made) v) hv
+
+    split-ok : NetOk m x (splitTo m net x (card (x .ks) i - 1))
+    split-ok =
+        record {
+          within = λ c hc.
+              let k = value (x .ks) c i in
+              let hk : k < card (x .ks) i = value-lt (x .ks) c i (r .pos) in
+              let b = without (singleton i) (x .ks) in
+              let p = without-pos (singleton i) (x .ks) (r .pos) in
+              let hd = cell-lt b (value (x .ks) c) p in
+              let n = net (cofactorStage k x) in
+              let o = cofactor-ok k hk in
+              subst (Between (x .limits) c) (sym (split-at (value (x .ks) c) hk))
+              (rw (cofactor-at x (r .pos) w k (x .limits .lower) (remap (x .ks) b c) hd, cofactor-at x (r .pos) w k (x .limits .upper) (remap (x .ks) b c) hd, lowest-cell (x .ks) c (r .pos) w hc, made-remap (x .ks) b m n c (r .pos) p (sub-without (singleton i) (x .ks)) (o .made))
+              at (o .within (remap (x .ks) b c) hd));
+          made = splitTo-made (card (x .ks) i - 1) (omega (arith, lowest-two (x .ks) (r .pos) w));
+        }
+
+  -- 2. to 6.
+  choice-ok : (ch : Choice) → 1 ≤ width (x .ks) → ChoiceOf (Admits m x) ch → NetOk m x (choiceTree m net ch x)
+  choice-ok split w o = split-ok w
+  choice-ok (joining op s t) w o = join-ok op s t o
+
+  pub left-ok : (n : ℕ) → width (x .ks) ≡ n → NetOk m x (leftTree m net n x)
+  left-ok zero e = fixed-ok m x r e
+  left-ok (suc zero) e = literal-ok m x r e
+  left-ok (suc (suc n)) e = choice-ok (chosen m x) (omega arith) (chosen-ok m x)
+
+-- every stage
+pub stage-ok : (m f : ℕ) → SubOk m (stageTree m f) f
+stage-ok m zero x hf r = fixed-ok m x r (omega arith)
+stage-ok m (suc f) x hf r =
+    let d = drops-ok m (numbersFrom 0 (length (x .ks))) x r in
+    d .back _ (left-ok m (stageTree m f) f (stage-ok m f) (left x) (le-trans (left-shrunk x (r .pos) .fewer) hf) (d .ready) (width (left x .ks)) refl)
+
+pub network-ok : (m : ℕ) (x : Stage) → Ready m x → NetOk m x (treeOf m x)
+network-ok m x r = stage-ok m (width (x .ks)) x (le-refl _) r
+
+-- the whole table
+pub whole-ready : (ks : List ℕ) (m : ℕ) (l : Limits) → Table ks m l → Ready m (wholeTable ks l)
+whole-ready ks m l t = record { grades = omega (arith, t .grades); pos = t .positive; good = record { room = t .ordered; top = t .top } }
+
+pub compiled-ok : (ks : List ℕ) (m : ℕ) (l : Limits) → Table ks m l → NetOk m (wholeTable ks l) (compiled ks m l)
+compiled-ok ks m l t = network-ok m (wholeTable ks l) (whole-ready ks m l t)
+
+-- every stage of a table
+pub admitted : (m : ℕ) (y : Stage) (op : Gate) (s t : ℕ) → chosen m y ≡ joining op s t → Admits m y op s t
+admitted m y op s t e = subst (ChoiceOf (Admits m y)) e (chosen-ok m y)
+
+pub stages-ready : (ks : List ℕ) (m : ℕ) (l : Limits) → Table ks m l → {x : Stage} → StageOf m (wholeTable ks l) x → Ready m x
+stages-ready ks m l w itself = whole-ready ks m l w
+stages-ready ks m l w (first-block {x = x} op s t o h e) =
+    first-ready m op s t (left x) (left-ready m x (stages-ready ks m l w o)) (admitted m (left x) op s t e)
+stages-ready ks m l w (second-block {x = x} op s t o h e) =
+    let r = left-ready m x (stages-ready ks m l w o) in
+    let a = admitted m (left x) op s t e in
+    second-ready m op s t (left x) r a _ (first-inside m (treeOf m) (width (left x .ks)) (λ z h q. network-ok m z q) (left x) (omega arith) r op s t a)
+stages-ready ks m l w (cofactor {x = x} k o h e hk) =
+    let r = left-ready m x (stages-ready ks m l w o) in
+    cofactor-ready (left x) (r .pos) (omega arith) k m r hk

@@ -1,0 +1,57 @@
+-- Tables as functions of the cell, and tests of every cell.
+use Prim.Native.Nat.{ℕ, zero, suc, _+_, _≤_, _<_}
+use mathlib.Core.Path.{_≡_, refl, sym, _∙_, ap, ap₂, subst}
+use mathlib.Core.Bool.{Bool}
+use mathlib.Core.List.{List, [], _∷_}
+use mathlib.Core.Logic.{⊎-elim}
+use native.Mathlib.Nat.{add-zero, zero-add, le-refl, not-suc-le-zero, le-of-suc-le-suc, eq-or-lt-of-le}
+use native.Mathlib.Omega.{arith}
+use lib.Dec.{T}
+use lib.ListN.{length, getD}
+use Rattle.rules.specs.Bytes.{at, tabulate, tabulateFrom, all}
+use Rattle.laws.proofs.TestLaws.{and-l, and-r, and-i}
+
+getD-tabFrom : (f : ℕ → ℕ) (n i c : ℕ) → c < n → getD (tabulateFrom f i n) c 0 ≡ f (i + c)
+getD-tabFrom f zero i c h = absurd (not-suc-le-zero h)
+getD-tabFrom f (suc n) i zero h = ap f (sym (add-zero i))
+getD-tabFrom f (suc n) i (suc c) h = getD-tabFrom f n (suc i) c (le-of-suc-le-suc h) ∙ ap f (omega arith)
+
+pub at-tabulate : (n : ℕ) (f : ℕ → ℕ) (c : ℕ) → c < n → at (tabulate n f) c ≡ f c
+at-tabulate n f c h = getD-tabFrom f n 0 c h ∙ ap f (zero-add c)
+
+pub all-at : (n : ℕ) (p : ℕ → Bool) → T (all n p) → (c : ℕ) → c < n → T (p c)
+all-at zero p h c lt = absurd (not-suc-le-zero lt)
+all-at (suc n) p h c lt =
+    ⊎-elim (λ e. subst (λ (k : ℕ). T (p k)) (sym e) (and-r (all n p) (p n) h))
+    (λ l. all-at n p (and-l (all n p) (p n) h) c l)
+    (eq-or-lt-of-le (le-of-suc-le-suc lt))
+
+pub all-of : (n : ℕ) (p : ℕ → Bool) → ((c : ℕ) → c < n → T (p c)) → T (all n p)
+all-of zero p h = tt
+all-of (suc n) p h = and-i (all n p) (p n) (all-of n p (λ c lt. h c (omega arith))) (h n (le-refl _))
+
+pub length-tabulateFrom : (f : ℕ → ℕ) (i n : ℕ) → length (tabulateFrom f i n) ≡ n
+length-tabulateFrom f i zero = refl
+length-tabulateFrom f i (suc n) = ap suc (length-tabulateFrom f (suc i) n)
+
+pub tabulate-from-below : (m : ℕ) (f : ℕ → ℕ) (i n : ℕ) → 0 < m → ((v : ℕ) → i ≤ v → v < i + n → f v < m) → (v : ℕ) → getD (tabulateFrom f i n) v 0 < m
+tabulate-from-below m f i zero p h v = p
+tabulate-from-below m f i (suc n) p h zero = h i (le-refl i) (omega arith)
+tabulate-from-below m f i (suc n) p h (suc v) = tabulate-from-below m f (suc i) n p (λ w a b. h w (omega arith) (omega arith)) v
+
+-- a list is the table of what stands at its places
+tabulate-from-self : (f : ℕ → ℕ) (i : ℕ) (gs : List ℕ) → ((v : ℕ) → v < length gs → f (i + v) ≡ at gs v) → tabulateFrom f i (length gs) ≡ gs
+tabulate-from-self f i [] h = refl
+tabulate-from-self f i (g ∷ gs) h =
+    ap₂ (λ (x : ℕ) (l : List ℕ). x ∷ l) (ap f (sym (add-zero i)) ∙ h 0 (omega arith))
+    (tabulate-from-self f (suc i) gs (λ v l. let e : suc i + v ≡ i + suc v = omega arith in ap f e ∙ h (suc v) (omega arith)))
+
+pub tabulate-self : (f : ℕ → ℕ) (gs : List ℕ) → ((v : ℕ) → v < length gs → f v ≡ at gs v) → tabulate (length gs) f ≡ gs
+tabulate-self f gs h = tabulate-from-self f 0 gs (λ v l. let z : 0 + v ≡ v = omega arith in ap f z ∙ h v l)
+
+tabulate-from-same : (f g : ℕ → ℕ) (i n : ℕ) → ((c : ℕ) → c < i + n → f c ≡ g c) → tabulateFrom f i n ≡ tabulateFrom g i n
+tabulate-from-same f g i zero h = refl
+tabulate-from-same f g i (suc n) h = ap₂ (λ (x : ℕ) (l : List ℕ). x ∷ l) (h i (omega arith)) (tabulate-from-same f g (suc i) n (λ c l. h c (omega arith)))
+
+pub tabulate-same : (n : ℕ) (f g : ℕ → ℕ) → ((c : ℕ) → c < n → f c ≡ g c) → tabulate n f ≡ tabulate n g
+tabulate-same n f g h = tabulate-from-same f g 0 n (λ c l. h c (omega arith))

@@ -1,0 +1,45 @@
+-- Tests: conjunctions, choices by a test, cases on a test.
+use Prim.Native.Nat.{ℕ, _≤_, _<_}
+use mathlib.Core.Path.{_≡_, refl}
+use mathlib.Core.Bool.{Bool, true, false, cond, _&&_}
+use borrow.Author.Tests.{leb-true, leb-false}
+use lib.Dec.{T, leb}
+use Rattle.rules.specs.Bytes.{pick}
+
+pub and-l : (a b : Bool) → T (a && b) → T a
+and-l true b h = tt
+and-l false b h = h
+
+pub and-r : (a b : Bool) → T (a && b) → T b
+and-r true b h = h
+and-r false b h = absurd h
+
+pub and-i : (a b : Bool) → T a → T b → T (a && b)
+and-i true b x y = y
+and-i false b x y = x
+
+pub pick-true : (b : Bool) (x y : ℕ) → T b → pick b x y ≡ x
+pick-true true x y h = refl
+pick-true false x y h = absurd h
+
+-- a choice by a test keeps a property that both sides have
+pub cond-ok : {A : Type 0} (Q : A → Type 0) (b : Bool) (x y : A) → (T b → Q x) → ((T b → ⊥) → Q y) → Q (cond b x y)
+cond-ok Q true x y f g = f tt
+cond-ok Q false x y f g = g (λ n. n)
+
+pub pick-ok : (Q : ℕ → Type 0) (b : Bool) (x y : ℕ) → (T b → Q x) → ((T b → ⊥) → Q y) → Q (pick b x y)
+pick-ok Q true x y f g = f tt
+pick-ok Q false x y f g = g (λ n. n)
+
+-- by cases on a test
+pub by-test : {P : Type 0} (b : Bool) → (T b → P) → ((T b → ⊥) → P) → P
+by-test true f g = f tt
+by-test false f g = g (λ n. n)
+
+-- by cases on which of two numbers is greater
+pub by-order : {P : Type 0} (a b : ℕ) → (a ≤ b → P) → (b < a → P) → P
+by-order {P} a b f g = go (leb a b) refl
+  where
+    go : (q : Bool) → leb a b ≡ q → P
+    go true e = f (leb-true a b e)
+    go false e = g (leb-false a b e)

@@ -1,0 +1,1 @@
+// Laws about the rules: no code.

@@ -1,0 +1,2 @@
+-- The small tables, computed.
+pub mod SmallTables

@@ -1,0 +1,117 @@
+-- What is claimed: of joins, demand 2; of a table and all its stages, demand 3.
+use Prim.Native.Nat.{ℕ, _-_, _*_, _≤_, _<_}
+use mathlib.Core.Path.{_≡_}
+use mathlib.Core.Bool.{false}
+use mathlib.Core.List.{List}
+use mathlib.Core.Logic.{_⊎_, _↔_}
+use lib.Dec.{T}
+use lib.ListN.{length}
+use Rattle.rules.specs.declared.Gate.{Gate}
+use Rattle.rules.specs.Bytes.{at}
+use Rattle.rules.specs.Cell.{Blind, Positive, cells, card, present, width, lowest, has}
+use Rattle.rules.specs.Shape.{maxConditions, maxCardinality, maxGrades, maxCells}
+use Rattle.rules.specs.Limits.{Limits}
+use Rattle.rules.specs.Join.{joinExists, firstLimits, secondLimits}
+use Rattle.rules.specs.Network.{Record, combine, networkBytes, networkSound, evaluate}
+use Rattle.rules.specs.Tree.{records}
+use Rattle.rules.specs.Stage.{Stage, left, split, joining, chosen, firstStage, secondStage, cofactorStage, computed, choiceTree, treeOf, wholeTable, compiled}
+
+-- grade q is within the limits of cell c
+abbrev pub Between : Limits → ℕ → ℕ → Type 0
+Between l c q = (at (l .lower) c ≤ q) × (q ≤ at (l .upper) c)
+
+-- a table that 01 accepts
+pub record Table (ks : List ℕ) (m : ℕ) (l : Limits) : Type 0 where
+  pub positive : Positive ks
+  pub few-conditions : length ks ≤ maxConditions
+  pub few-values : (i : ℕ) → card ks i ≤ maxCardinality
+  pub few-cells : cells ks ≤ maxCells
+  pub grades : 2 ≤ m
+  pub few-grades : m ≤ maxGrades
+  pub ordered : (c : ℕ) → c < cells ks → at (l .lower) c ≤ at (l .upper) c
+  pub top : (c : ℕ) → c < cells ks → at (l .upper) c ≤ m - 1
+
+-- Demand 2, joins.
+
+-- a function of the cells whose values are grades; one that lies within limits
+abbrev pub Grades : List ℕ → ℕ → (ℕ → ℕ) → Type 0
+Grades ks m f = (c : ℕ) → c < cells ks → f c ≤ m - 1
+
+abbrev pub Inside : List ℕ → Limits → (ℕ → ℕ) → Type 0
+Inside ks l f = (c : ℕ) → c < cells ks → Between l c (f c)
+
+-- two functions, each blind to the other's own conditions, that the gate combines within the table
+pub record Pair (op : Gate) (ks : List ℕ) (m s t : ℕ) (l : Limits) (g h : ℕ → ℕ) : Type 0 where
+  pub first-grades : Grades ks m g
+  pub second-grades : Grades ks m h
+  pub first-blind : Blind ks t g
+  pub second-blind : Blind ks s h
+  pub inside : Inside ks l (λ c. combine op (g c) (h c))
+
+pub record JoinExact (op : Gate) (ks : List ℕ) (m s t : ℕ) (l : Limits) : Type 0 where
+  -- the join does not exist exactly when there are no two such functions
+  pub refused : (joinExists op ks m s t l ≡ false) ↔ ((g h : ℕ → ℕ) → Pair op ks m s t l g h → ⊥)
+  -- the first block's limits hold exactly the functions that can be the first of two
+  pub first-exact : T (joinExists op ks m s t l) → (g : ℕ → ℕ) → Grades ks m g → Blind ks t g
+      → Inside ks (firstLimits op ks m s t l) g ↔ ((h : ℕ → ℕ) × Pair op ks m s t l g h)
+  -- the second block's, exactly those that complete the first block given
+  pub second-exact : T (joinExists op ks m s t l) → (g : List ℕ) → Grades ks m (at g) → Blind ks t (at g) → Inside ks (firstLimits op ks m s t l) (at g)
+      → (h : ℕ → ℕ) → Grades ks m h → Blind ks s h → Inside ks (secondLimits op ks m s t l g) h ↔ Pair op ks m s t l (at g) h
+
+-- Demand 3, stages.
+
+-- the stages of the table whose first stage is x₀: that one, and every one that a stage among them starts
+pub data StageOf (m : ℕ) (x₀ : Stage) : Stage → Type 0 where
+  itself : StageOf m x₀ x₀
+  first-block : {x : Stage} (op : Gate) (s t : ℕ) → StageOf m x₀ x → 2 ≤ width (left x .ks) → chosen m (left x) ≡ joining op s t
+      → StageOf m x₀ (firstStage m op s t (left x))
+  second-block : {x : Stage} (op : Gate) (s t : ℕ) → StageOf m x₀ x → 2 ≤ width (left x .ks) → chosen m (left x) ≡ joining op s t
+      → StageOf m x₀ (secondStage m op s t (left x) (computed (left x .ks) (treeOf m (firstStage m op s t (left x)))))
+  cofactor : {x : Stage} (k : ℕ) → StageOf m x₀ x → 2 ≤ width (left x .ks) → chosen m (left x) ≡ split → k < card (left x .ks) (lowest (left x .ks))
+      → StageOf m x₀ (cofactorStage k (left x))
+
+-- every condition of s is in t
+abbrev pub Subset : ℕ → ℕ → Type 0
+Subset s t = (i : ℕ) → T (has s i) → T (has t i)
+
+-- some condition of t is not in s
+abbrev pub Larger : ℕ → ℕ → Type 0
+Larger s t = (i : ℕ) × T (has t i) × (T (has s i) → ⊥)
+
+-- 01, Joins: two sets of conditions that a join may be tried at
+pub record Sets (ks : List ℕ) (s t : ℕ) : Type 0 where
+  pub some-s : (i : ℕ) × T (has s i)
+  pub some-t : (i : ℕ) × T (has t i)
+  pub in-s : (i : ℕ) → T (has s i) → T (present ks i)
+  pub in-t : (i : ℕ) → T (has t i) → T (present ks i)
+  pub disjoint : (i : ℕ) → T (has s i) → T (has t i) → ⊥
+
+-- 01, Stages: the sets s and t admit a join by a gate, y being the stage with its conditions left
+pub record Admits (m : ℕ) (y : Stage) (op : Gate) (s t : ℕ) : Type 0 where
+  pub sets : Sets (y .ks) s t
+  pub joins : T (joinExists op (y .ks) m s t (y .limits))
+
+-- the choice of a stage
+pub record Exact (m : ℕ) (y : Stage) : Type 0 where
+  -- a split exactly when no two sets admit a join by either gate
+  pub splits : (chosen m y ≡ split) ↔ ((op : Gate) (s t : ℕ) → Admits m y op s t → ⊥)
+  -- a join's sets can't be extended
+  pub largest : (op : Gate) (s t : ℕ) → chosen m y ≡ joining op s t
+      → (s′ t′ : ℕ) → Subset s s′ → Subset t t′ → Larger s s′ ⊎ Larger t t′ → Admits m y op s′ t′ → ⊥
+
+-- so in every stage of the table with two or more conditions left, and the stage's tree is the one of that choice
+abbrev pub EveryStage : List ℕ → ℕ → Limits → Type 0
+EveryStage ks m l = (x : Stage) → StageOf m (wholeTable ks l) x → 2 ≤ width (left x .ks)
+    → Exact m (left x) × (treeOf m x ≡ choiceTree m (treeOf m) (chosen m (left x)) (left x))
+
+-- the records of a table's network
+abbrev pub compiledRecords : List ℕ → ℕ → Limits → List Record
+compiledRecords ks m l = records (compiled ks m l) 0
+
+-- demand 3 of a table and its network's bytes
+pub record Compiled (ks : List ℕ) (m : ℕ) (l : Limits) : Type 0 where
+  pub within : Inside ks l (evaluate ks (networkBytes (compiledRecords ks m l)))
+  pub sound : T (networkSound ks m (networkBytes (compiledRecords ks m l)))
+  pub one : cells ks ≡ 1 → length (compiledRecords ks m l) ≡ 1
+  pub most : 2 ≤ cells ks → length (compiledRecords ks m l) ≤ 3 * cells ks - 5
+  pub stages : EveryStage ks m l

@@ -1,0 +1,14 @@
+-- The rules of document 01 as definitions. A reader holds each against the section of 01 that its comment names.
+pub mod Refusal
+pub mod Verdict
+pub mod Bytes
+pub mod Cell
+pub mod Shape
+pub mod Limits
+pub mod TableFile
+pub mod Join
+pub mod Network
+pub mod Tree
+pub mod Stage
+pub mod Demands
+pub mod Small

@@ -1,0 +1,184 @@
+-- 01, Stages: from a table to its network.
+use Prim.Native.Nat.{ℕ, zero, suc, _+_, _-_, _*_, _/_, _%_}
+use mathlib.Core.Bool.{Bool, cond, not, _&&_, _||_}
+use mathlib.Core.List.{List, [], _∷_}
+use lib.Dec.{leb, ltb, eqb}
+use lib.ListN.{length}
+use Rattle.rules.specs.declared.Gate.{Gate}
+use Rattle.rules.specs.declared.Gate.the-variants.{Min, Max}
+use Rattle.rules.specs.Bytes.{pick, at, tabulate, all, numbersFrom}
+use Rattle.rules.specs.Cell.{cells, card, present, width, lowest, value, has, insert, singleton, without, moved, greatestOver, leastOver}
+use Rattle.rules.specs.Limits.{Limits, each}
+use Rattle.rules.specs.Join.{joinExists, firstLimits, secondLimits}
+use Rattle.rules.specs.Tree.{Tree, fixed, lookup, gated, treeGrade}
+
+-- a stage: its places, with cardinality 1 for each condition that it does not have, and the limits of its own cells
+pub record Stage : Type 0 where
+  pub ks : List ℕ
+  pub limits : Limits
+
+-- the stage over the conditions outside t, under limits l that are for the cells of x
+abbrev pub outside : ℕ → Stage → Limits → Stage
+outside t x l = let b = without t (x .ks) in record { ks = b; limits = each (moved (x .ks) b) l }
+
+-- the function that a tree computes, as a table over the cells of a shape
+abbrev pub computed : List ℕ → Tree → List ℕ
+computed ks n = tabulate (cells ks) (λ c. treeGrade n (value ks c))
+
+-- Step 1. The limits that dropping condition i would leave
+abbrev pub merged : ℕ → Stage → Limits
+merged i x =
+    record { lower = greatestOver (x .ks) (singleton i) (x .limits .lower); upper = leastOver (x .ks) (singleton i) (x .limits .upper) }
+
+-- every cell has a grade within them
+abbrev pub fits : List ℕ → Limits → Bool
+fits ks l = all (cells ks) (λ c. leb (at (l .lower) c) (at (l .upper) c))
+
+abbrev pub dropOne : ℕ → Stage → Stage
+dropOne i x =
+    let dropped = outside (singleton i) x (merged i x) in
+    cond (present (x .ks) i && fits (x .ks) (merged i x)) dropped x
+
+abbrev pub drops : List ℕ → Stage → Stage
+drops [] x = x
+drops (i ∷ is) x = drops is (dropOne i x)
+
+-- the stage with its conditions left, under its limits from then on
+abbrev pub left : Stage → Stage
+left x = drops (numbersFrom 0 (length (x .ks))) x
+
+-- Step 3. Two sets, if a pair is found
+pub data Grouping : Type 0 where
+  none : Grouping
+  sets : ℕ → ℕ → Grouping
+
+abbrev pub members : ℕ → ℕ → ℕ
+members zero s = 0
+members (suc f) s = s % 2 + members f (s / 2)
+
+-- how many conditions a set has
+abbrev pub count : ℕ → ℕ
+count = members 8
+
+-- is i : condition i is left; joins s t : the join at the sets s and t exists
+module _ (is : ℕ → Bool) (joins : ℕ → ℕ → Bool) where
+  -- the first pair of i and one of the numbers given that joins, or else the other grouping
+  abbrev pub pairWith : ℕ → List ℕ → Grouping → Grouping
+  pairWith i [] other = other
+  pairWith i (j ∷ js) other =
+      let later = pairWith i js other in
+      cond (is i && (is j && joins (singleton i) (singleton j))) (sets (singleton i) (singleton j)) later
+
+  -- the first pair i < j that joins, i rising, then j
+  abbrev pub firstPair : List ℕ → Grouping
+  firstPair [] = none
+  firstPair (i ∷ js) = let later = firstPair js in pairWith i js later
+
+  abbrev pub tryJoin : ℕ → ℕ → Grouping → Grouping
+  tryJoin s t other = cond (joins s t) (sets s t) other
+
+  -- one condition added: first to the set with fewer members, s when equal, then to the other, else to neither
+  abbrev pub addCondition : ℕ → Grouping → Grouping
+  addCondition i none = none
+  addCondition i (sets s t) =
+      let toS = tryJoin (insert s i) t (tryJoin s (insert t i) (sets s t)) in
+      let toT = tryJoin s (insert t i) (tryJoin (insert s i) t (sets s t)) in
+      let tried = cond (leb (count s) (count t)) toS toT in
+      cond (is i && (not (has s i) && not (has t i))) tried (sets s t)
+
+  abbrev pub grow : List ℕ → Grouping → Grouping
+  grow [] g = g
+  grow (i ∷ js) g = grow js (addCondition i g)
+
+  abbrev pub grouping : List ℕ → Grouping
+  grouping js = grow js (firstPair js)
+
+-- the grouping that a stage finds for a gate
+abbrev pub groups : ℕ → Stage → Gate → Grouping
+groups m x op =
+    grouping (present (x .ks)) (λ s t. joinExists op (x .ks) m s t (x .limits)) (numbersFrom 0 (length (x .ks)))
+
+-- Step 4. A join by a gate at two sets, or a split
+pub data Choice : Type 0 where
+  split : Choice
+  joining : Gate → ℕ → ℕ → Choice
+
+abbrev pub difference : ℕ → ℕ → ℕ
+difference a b = (a - b) + (b - a)
+
+-- whether the max grouping s, t is taken before the min grouping s′, t′: more conditions, then the smaller difference, then max
+abbrev pub keepsMax : ℕ → ℕ → ℕ → ℕ → Bool
+keepsMax s t s′ t′ =
+    ltb (count s′ + count t′) (count s + count t)
+    || (eqb (count s′ + count t′) (count s + count t) && leb (difference (count s) (count t)) (difference (count s′) (count t′)))
+
+abbrev pub choose : Grouping → Grouping → Choice
+choose none none = split
+choose none (sets s t) = joining Min s t
+choose (sets s t) none = joining Max s t
+choose (sets s t) (sets s′ t′) = cond (keepsMax s t s′ t′) (joining Max s t) (joining Min s′ t′)
+
+abbrev pub chosen : ℕ → Stage → Choice
+chosen m x = choose (groups m x Max) (groups m x Min)
+
+-- Step 5. The stages that a join starts
+abbrev pub firstStage : ℕ → Gate → ℕ → ℕ → Stage → Stage
+firstStage m op s t x = outside t x (firstLimits op (x .ks) m s t (x .limits))
+
+-- g is the function that the first network computes
+abbrev pub secondStage : ℕ → Gate → ℕ → ℕ → Stage → List ℕ → Stage
+secondStage m op s t x g = outside s x (secondLimits op (x .ks) m s t (x .limits) g)
+
+-- Step 6. The stage that a split starts for value k. No condition is below the one split on, so its cells with value k are k + card × c
+abbrev pub cofactorStage : ℕ → Stage → Stage
+cofactorStage k x =
+    let i = lowest (x .ks) in
+    let b = without (singleton i) (x .ks) in
+    record { ks = b; limits = each (λ f. tabulate (cells b) (λ c. at f (k + card (x .ks) i * c))) (x .limits) }
+
+-- the literal that selects value k
+abbrev pub selector : ℕ → List ℕ → ℕ → Tree
+selector m ks k = lookup (lowest ks) (tabulate (card ks (lowest ks)) (λ v. pick (eqb v k) (m - 1) 0))
+
+-- the tree of a stage, where `net` gives those of the stages with fewer conditions
+module _ (m : ℕ) (net : Stage → Tree) where
+  -- step 5
+  abbrev pub joinTree : Gate → ℕ → ℕ → Stage → Tree
+  joinTree op s t x =
+      let a : Tree = net (firstStage m op s t x) in
+      gated op a (net (secondStage m op s t x (computed (x .ks) a)))
+
+  -- step 6, one value
+  abbrev pub splitPart : Stage → ℕ → Tree
+  splitPart x k = gated Min (selector m (x .ks) k) (net (cofactorStage k x))
+
+  -- step 6, the values 0 to k
+  abbrev pub splitTo : Stage → ℕ → Tree
+  splitTo x zero = splitPart x 0
+  splitTo x (suc k) = gated Max (splitTo x k) (splitPart x (suc k))
+
+  abbrev pub choiceTree : Choice → Stage → Tree
+  choiceTree split x = splitTo x (card (x .ks) (lowest (x .ks)) - 1)
+  choiceTree (joining op s t) x = joinTree op s t x
+
+  -- step 2, with no condition or one left; steps 3 to 6 with more
+  abbrev pub leftTree : ℕ → Stage → Tree
+  leftTree zero x = fixed (at (x .limits .lower) 0)
+  leftTree (suc zero) x = lookup (lowest (x .ks)) (tabulate (card (x .ks) (lowest (x .ks))) (at (x .limits .lower)))
+  leftTree (suc (suc n)) x = choiceTree (chosen m x) x
+
+-- the tree of a stage of at most f conditions
+abbrev pub stageTree : ℕ → ℕ → Stage → Tree
+stageTree m zero x = fixed (at (x .limits .lower) 0)
+stageTree m (suc f) x = let y = left x in leftTree m (stageTree m f) (width (y .ks)) y
+
+abbrev pub treeOf : ℕ → Stage → Tree
+treeOf m x = stageTree m (width (x .ks)) x
+
+-- the first stage of a table
+abbrev pub wholeTable : List ℕ → Limits → Stage
+wholeTable ks l = record { ks = ks; limits = l }
+
+-- the network of a table
+abbrev pub compiled : List ℕ → ℕ → Limits → Tree
+compiled ks m l = treeOf m (wholeTable ks l)

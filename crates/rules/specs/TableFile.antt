@@ -1,0 +1,100 @@
+-- 01, Tables and cells: table files. Records are judged one after the other, each by all of its rows of "Places where a call stops".
+use Prim.Native.Nat.{ℕ, zero, suc, _+_, _-_, _*_, _/_, _%_}
+use mathlib.Core.Bool.{not, cond, _&&_}
+use mathlib.Core.List.{List}
+use lib.Dec.{leb, ltb, eqb}
+use lib.ListN.{length, replicate, set}
+use Rattle.rules.specs.declared.Refusal.the-variants.{FileLength, RecordBytes, RecordOrder, ShapeRange, GradeLimits, CellValues, ShortBuffer}
+use Rattle.rules.specs.Bytes.{at, all, recordAt, zeros}
+use Rattle.rules.specs.Cell.{cells, card, number}
+use Rattle.rules.specs.Shape.{maxConditions, maxCardinality, maxGrades, maxCells, places}
+use Rattle.rules.specs.Limits.{Limits}
+use Rattle.rules.specs.Verdict.{Verdict, accepted, refused, unless, andThen}
+
+-- what the records so far say: n conditions with their cardinalities by place, 0 elsewhere; m grades, 0 before the grades record;
+-- the number after that of the last cell
+pub record Seen : Type 0 where
+  pub n : ℕ
+  pub cards : List ℕ
+  pub m : ℕ
+  pub next : ℕ
+
+abbrev pub start : Seen
+start = record { n = 0; cards = replicate 8 0; m = 0; next = 0 }
+
+-- kind 1, a condition: before the grades record, and the next number
+abbrev pub conditionRecord : Seen → List ℕ → Verdict Seen
+conditionRecord s r =
+    unless (zeros r 3 16) RecordBytes
+    (unless (eqb (s .m) 0 && eqb (at r 1) (s .n)) RecordOrder
+    (unless (ltb (s .n) maxConditions && ((leb 2 (at r 2) && leb (at r 2) maxCardinality) && leb (cells (places (s .cards)) * at r 2) maxCells)) ShapeRange
+    (accepted (record { n = s .n + 1; cards = set (s .cards) (s .n) (at r 2); m = s .m; next = s .next }))))
+
+-- kind 2, the grades: once
+abbrev pub gradesRecord : Seen → List ℕ → Verdict Seen
+gradesRecord s r =
+    unless (zeros r 2 16) RecordBytes
+    (unless (eqb (s .m) 0) RecordOrder
+    (unless (leb 2 (at r 1) && leb (at r 1) maxGrades) ShapeRange
+    (accepted (record { n = s .n; cards = s .cards; m = at r 1; next = s .next }))))
+
+-- the number of the cell that a cell record names
+abbrev pub listedCell : List ℕ → List ℕ → ℕ
+listedCell cards r = number (places cards) (λ i. at r (8 + i))
+
+-- kind 3, a cell: after the grades record, its values below the cardinalities, its number above those before, its limits in order and below m
+abbrev pub cellRecord : Seen → List ℕ → Verdict Seen
+cellRecord s r =
+    unless (zeros r 3 8 && zeros r (8 + s .n) 16) RecordBytes
+    (unless (not (eqb (s .m) 0)) RecordOrder
+    (unless (all 8 (λ i. ltb (at r (8 + i)) (card (places (s .cards)) i)) && leb (s .next) (listedCell (s .cards) r)) CellValues
+    (unless (leb (at r 1) (at r 2) && ltb (at r 2) (s .m)) GradeLimits
+    (accepted (record { n = s .n; cards = s .cards; m = s .m; next = listedCell (s .cards) r + 1 })))))
+
+abbrev pub tableRecord : Seen → List ℕ → Verdict Seen
+tableRecord s r =
+    cond (eqb (at r 0) 1) (conditionRecord s r)
+    (cond (eqb (at r 0) 2) (gradesRecord s r)
+    (cond (eqb (at r 0) 3) (cellRecord s r)
+    (refused RecordBytes)))
+
+-- n records from record k on; after the last one there has been a grades record
+abbrev pub tableRecords : List ℕ → ℕ → ℕ → Seen → Verdict Seen
+tableRecords file k zero s = unless (not (eqb (s .m) 0)) RecordOrder (accepted s)
+tableRecords file k (suc n) s = andThen (tableRecord s (recordAt file k)) (tableRecords file (suc k) n)
+
+-- one record for each cell, each condition and the grades, at most
+abbrev pub maxFileLength : ℕ
+maxFileLength = 16528
+
+abbrev pub judgeFile : List ℕ → Verdict Seen
+judgeFile file =
+    unless (ltb 0 (length file) && (eqb (length file % 16) 0 && leb (length file) maxFileLength)) FileLength
+    (tableRecords file 0 (length file / 16) start)
+
+-- the whole verdict, for limit buffers of the given lengths
+abbrev pub judgeReading : List ℕ → ℕ → ℕ → Verdict Seen
+judgeReading file lower upper =
+    andThen (judgeFile file) (λ s. unless (leb (cells (places (s .cards))) lower && leb (cells (places (s .cards))) upper) ShortBuffer (accepted s))
+
+-- a table of limits over which the cell records among n records from record k on are laid, each with its byte at place j
+abbrev pub listed : List ℕ → List ℕ → ℕ → ℕ → ℕ → List ℕ → List ℕ
+listed file cards j k zero t = t
+listed file cards j k (suc n) t =
+    let r = recordAt file k in
+    listed file cards j (suc k) n (cond (eqb (at r 0) 3) (set t (listedCell cards r) (at r j)) t)
+
+-- the limits of a cell that is not listed
+abbrev pub unlistedLower : Seen → ℕ
+unlistedLower s = 0
+
+abbrev pub unlistedUpper : Seen → ℕ
+unlistedUpper s = s .m - 1
+
+-- the limits of an accepted file
+abbrev pub fileLimits : List ℕ → Seen → Limits
+fileLimits file s =
+    record {
+      lower = listed file (s .cards) 1 0 (length file / 16) (replicate (cells (places (s .cards))) (unlistedLower s));
+      upper = listed file (s .cards) 2 0 (length file / 16) (replicate (cells (places (s .cards))) (unlistedUpper s));
+    }

@@ -1,0 +1,24 @@
+-- 01, Places where a call stops: a call accepts, with what it then answers or writes, or refuses.
+use Prim.Native.Nat.{ℕ}
+use mathlib.Core.Bool.{Bool, true, false}
+use Rattle.rules.specs.declared.Refusal.{Refusal}
+use Rattle.rules.specs.Refusal.{refusalNumber}
+
+pub data Verdict (A : Type 0) : Type 0 where
+  accepted : A → Verdict A
+  refused : Refusal → Verdict A
+
+-- one row: refused unless the test passes, and then the rows below it
+abbrev pub unless : {A : Type 0} → Bool → Refusal → Verdict A → Verdict A
+unless true q v = v
+unless false q v = refused q
+
+-- the rows of a second part, once the first is accepted
+abbrev pub andThen : {A B : Type 0} → Verdict A → (A → Verdict B) → Verdict B
+andThen (accepted a) f = f a
+andThen (refused q) f = refused q
+
+-- the number of a refusal, 0 where the call is accepted
+abbrev pub verdictNumber : {A : Type 0} → Verdict A → ℕ
+verdictNumber (accepted a) = 0
+verdictNumber (refused q) = refusalNumber q

@@ -1,0 +1,35 @@
+// The types that the rules of document 01 speak of. The rules themselves are definitions, in specs/.
+
+// 01, Joins: the gate that combines two blocks, and the gate of a network's record.
+pub enum Gate {
+    Min,
+    Max,
+}
+
+// 01, Places where a call stops: a case for each row. specs/Refusal.antt gives each its number.
+pub enum Refusal {
+    // The table file's length.
+    FileLength,
+    // A table record of unknown kind, or with a byte set that must be zero.
+    RecordBytes,
+    // A table record out of order, or no grades record.
+    RecordOrder,
+    // Conditions, a cardinality, grades or cells outside a shape's limits.
+    ShapeRange,
+    // A cell's limits out of order, or not below the grades.
+    GradeLimits,
+    // A cell record with a value that its condition lacks, or not after the cell before.
+    CellValues,
+    // Sets that are empty, overlap, or name a condition that is not there.
+    Sets,
+    // The join does not exist.
+    NoJoin,
+    // A first block outside its limits, or dependent on the second set.
+    FirstBlock,
+    // A lent buffer is too short.
+    ShortBuffer,
+    // A network of a wrong length, or with a faulty record.
+    Network,
+    // A cell number that the table does not have.
+    CellNumber,
+}
