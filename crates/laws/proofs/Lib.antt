@@ -11,6 +11,7 @@ pub mod GroupLaws
 pub mod JoinExactLaws
 pub mod JoinLaws
 pub mod LineLaws
+pub mod NumberLaws
 pub mod LoopLaws
 pub mod LowestLaws
 pub mod OverLaws
