@@ -1,5 +1,5 @@
 -- The join's theorems: what the limits admit, and what every pair of blocks obeys.
-use Prim.Native.Nat.{ℕ, _-_, _≤_, _<_, max, zero-le}
+use Prim.Native.Nat.{ℕ, _≤_, _<_, max, zero-le}
 use mathlib.Core.Bool.{Bool, true, false}
 use mathlib.Core.List.{List}
 use native.Mathlib.Nat.{le-refl, le-trans, max-le}

@@ -3,7 +3,7 @@ use Prim.Native.Nat.{ℕ, zero, suc, _+_, _-_, _*_, _/_, _%_, _≤_, _<_}
 use mathlib.Core.Path.{_≡_, refl, sym, _∙_, ap, ap₂, subst}
 use mathlib.Core.Bool.{Bool, true, _&&_}
 use mathlib.Core.List.{List, [], _∷_, _++_, append-assoc}
-use mathlib.Core.Logic.{_⊎_, ⊎-elim}
+use mathlib.Core.Logic.{⊎-elim}
 use native.Mathlib.Numerals.{add-one}
 use native.Mathlib.Nat.{div-one, mul-le-mul-left, mul-le-mul-right, add-zero, add-comm, add-assoc, mul-comm, mul-add, le-refl, not-suc-le-zero, le-of-suc-le-suc, eq-or-lt-of-le, mod-lt, mod-add-div}
 use native.Mathlib.Omega.{arith}

@@ -1,5 +1,5 @@
 -- The lowest condition of a shape: no condition stands before it, so it is the cell number's first digit.
-use Prim.Native.Nat.{ℕ, zero, suc, _+_, _-_, _*_, _/_, _%_, _≤_, _<_}
+use Prim.Native.Nat.{ℕ, zero, suc, _+_, _*_, _/_, _%_, _≤_, _<_}
 use mathlib.Core.Path.{_≡_, refl, sym, _∙_, ap, ap₂, subst}
 use mathlib.Core.List.{List, [], _∷_}
 use native.Mathlib.Nat.{le-trans, le-antisymm, mod-one, div-one, one-mul, mul-one, zero-add, not-suc-le-zero, mul-le-mul-right, mod-add-div}

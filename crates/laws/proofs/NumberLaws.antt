@@ -6,7 +6,7 @@ use native.Mathlib.Nat.{le-refl, add-assoc, mul-add, mul-assoc, mul-le-mul, pow-
 use native.Mathlib.Numerals.{add-one}
 use native.Mathlib.Omega.{arith}
 use lib.Dec.{eqb}
-use lib.ListN.{length, getD, take}
+use lib.ListN.{length, getD, take, List·getD-eq-default}
 use Rattle.rules.specs.Bytes.{at}
 use Rattle.rules.specs.Cell.{Positive, cells, card, step, value, number, cell, has}
 use Rattle.laws.proofs.UnionLaws.{digit-below}
@@ -47,6 +47,15 @@ value-number ks v i p h l = ap (λ (c : ℕ). value ks c i) (number-cell ks v h)
 -- a cardinality as an element of an array of eight
 pub card-positive : (ks : List ℕ) (i : ℕ) → i < length ks → Positive ks → 0 < getD ks i 0
 card-positive ks i h p = rw (card-read ks i h) (card-pos ks i p)
+
+-- past the last place
+pub card-past : (ks : List ℕ) (i : ℕ) → length ks ≤ i → card ks i ≡ 1
+card-past ks i h = List·getD-eq-default ks 1 h
+
+pub value-past : (ks : List ℕ) (c i : ℕ) → length ks ≤ i → value ks c i ≡ 0
+value-past [] c i h = refl
+value-past (k ∷ ks) c zero h = absurd (not-suc-le-zero h)
+value-past (k ∷ ks) c (suc i) h = value-past ks _ i (le-of-suc-le-suc h)
 
 -- one round of a loop that adds up a cell number
 pub record NumberRound (ks : List ℕ) (v : ℕ → ℕ) (i cell stp : ℕ) : Type 0 where

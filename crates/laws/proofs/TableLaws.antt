@@ -1,10 +1,11 @@
 -- Tables as functions of the cell, and tests of every cell.
 use Prim.Native.Nat.{ℕ, zero, suc, _+_, _≤_, _<_}
 use mathlib.Core.Path.{_≡_, refl, sym, _∙_, ap, ap₂, subst}
-use mathlib.Core.Bool.{Bool}
+use mathlib.Core.Bool.{Bool, true, false, _&&_}
 use mathlib.Core.List.{List, [], _∷_}
 use mathlib.Core.Logic.{⊎-elim}
 use native.Mathlib.Nat.{add-zero, zero-add, le-refl, not-suc-le-zero, le-of-suc-le-suc, eq-or-lt-of-le}
+use native.Mathlib.Numerals.{add-one}
 use native.Mathlib.Omega.{arith}
 use lib.Dec.{T}
 use lib.ListN.{length, getD}
@@ -38,6 +39,21 @@ pub tabulate-from-below : (m : ℕ) (f : ℕ → ℕ) (i n : ℕ) → 0 < m → 
 tabulate-from-below m f i zero p h v = p
 tabulate-from-below m f i (suc n) p h zero = h i (le-refl i) (omega arith)
 tabulate-from-below m f i (suc n) p h (suc v) = tabulate-from-below m f (suc i) n p (λ w a b. h w (omega arith) (omega arith)) v
+
+-- a loop over the cells that stops at the first that fails
+pub all-more : (n : ℕ) (p : ℕ → Bool) → all n p ≡ true → p n ≡ true → all (n + 1) p ≡ true
+all-more n p h g = rw (add-one n, h, g)
+
+pub all-false : (n : ℕ) (p : ℕ → Bool) (c : ℕ) → c < n → p c ≡ false → all n p ≡ false
+all-false zero p c h e = absurd (not-suc-le-zero h)
+all-false (suc n) p c h e =
+    ⊎-elim (λ q. subst (λ (b : Bool). all n p && b ≡ false) (sym (subst (λ (k : ℕ). p k ≡ false) q e)) (and-no (all n p)))
+    (λ l. rw (all-false n p c l e))
+    (eq-or-lt-of-le (le-of-suc-le-suc h))
+  where
+    and-no : (b : Bool) → b && false ≡ false
+    and-no true = refl
+    and-no false = refl
 
 -- a list is the table of what stands at its places
 tabulate-from-self : (f : ℕ → ℕ) (i : ℕ) (gs : List ℕ) → ((v : ℕ) → v < length gs → f (i + v) ≡ at gs v) → tabulateFrom f i (length gs) ≡ gs

@@ -1,0 +1,2 @@
+-- Laws of shapes.
+pub mod ShapeLaws

@@ -1,0 +1,2 @@
+-- What the contracts of `shape` cite.
+pub mod Shapes
