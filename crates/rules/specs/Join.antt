@@ -1,7 +1,7 @@
 -- 01, Joins.
 use Prim.Native.Nat.{ℕ, _-_, max}
-use mathlib.Core.Bool.{Bool, true, not, _&&_, _||_}
-use mathlib.Core.List.{List, [], _∷_}
+use mathlib.Core.Bool.{Bool, not, _&&_, _||_}
+use mathlib.Core.List.{List}
 use lib.Dec.{leb, ltb, eqb}
 use Rattle.rules.specs.declared.Gate.{Gate}
 use Rattle.rules.specs.declared.Gate.the-variants.{Min, Max}
@@ -10,7 +10,7 @@ use Rattle.rules.specs.Bytes.{pick, at, tabulate, all}
 use Rattle.rules.specs.Cell.{cells, present, has, agreeOutside, greatestOver, leastOver}
 use Rattle.rules.specs.Shape.{places, shapeSound}
 use Rattle.rules.specs.Limits.{Limits, limitsSound}
-use Rattle.rules.specs.Verdict.{Verdict, accepted, unless}
+use Rattle.rules.specs.Verdict.{Verdict, accepted, unless, roomy}
 
 -- a grade where it is above another, else 0
 abbrev pub above : ℕ → ℕ → ℕ
@@ -70,11 +70,6 @@ secondLimits op ks m s t l g =
     (record { lower = lB ks s t (x .lower) (x .upper) (exchangeBlockFor op ks m g); upper = uB ks s t (x .lower) (x .upper) })
 
 -- The join calls: the rows of "Places where a call stops" in their order.
-
--- every lent buffer, by its length, holds n bytes
-abbrev pub roomy : ℕ → List ℕ → Bool
-roomy n [] = true
-roomy n (b ∷ bs) = leb n b && roomy n bs
 
 -- row 7: two non-empty sets, of conditions that are there, with none in common
 abbrev pub setsSound : List ℕ → ℕ → ℕ → Bool

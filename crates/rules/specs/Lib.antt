@@ -8,6 +8,7 @@ pub mod Limits
 pub mod TableFile
 pub mod Join
 pub mod Network
+pub mod NetworkCalls
 pub mod Tree
 pub mod Stage
 pub mod Demands

@@ -38,18 +38,18 @@ gradesRecord s r =
     (unless (leb 2 (at r 1) && leb (at r 1) maxGrades) ShapeRange
     (accepted (record { n = s .n; cards = s .cards; m = at r 1; next = s .next }))))
 
--- the number of the cell that a cell record names
+-- the number of the cell that a cell record names, over the places ks
 abbrev pub listedCell : List ℕ → List ℕ → ℕ
-listedCell cards r = number (places cards) (λ i. at r (8 + i))
+listedCell ks r = number ks (λ i. at r (8 + i))
 
 -- kind 3, a cell: after the grades record, its values below the cardinalities, its number above those before, its limits in order and below m
 abbrev pub cellRecord : Seen → List ℕ → Verdict Seen
 cellRecord s r =
     unless (zeros r 3 8 && zeros r (8 + s .n) 16) RecordBytes
     (unless (not (eqb (s .m) 0)) RecordOrder
-    (unless (all 8 (λ i. ltb (at r (8 + i)) (card (places (s .cards)) i)) && leb (s .next) (listedCell (s .cards) r)) CellValues
+    (unless (all 8 (λ i. ltb (at r (8 + i)) (card (places (s .cards)) i)) && leb (s .next) (listedCell (places (s .cards)) r)) CellValues
     (unless (leb (at r 1) (at r 2) && ltb (at r 2) (s .m)) GradeLimits
-    (accepted (record { n = s .n; cards = s .cards; m = s .m; next = listedCell (s .cards) r + 1 })))))
+    (accepted (record { n = s .n; cards = s .cards; m = s .m; next = listedCell (places (s .cards)) r + 1 })))))
 
 abbrev pub tableRecord : Seen → List ℕ → Verdict Seen
 tableRecord s r =
@@ -77,12 +77,12 @@ abbrev pub judgeReading : List ℕ → ℕ → ℕ → Verdict Seen
 judgeReading file lower upper =
     andThen (judgeFile file) (λ s. unless (leb (cells (places (s .cards))) lower && leb (cells (places (s .cards))) upper) ShortBuffer (accepted s))
 
--- a table of limits over which the cell records among n records from record k on are laid, each with its byte at place j
-abbrev pub listed : List ℕ → List ℕ → ℕ → ℕ → ℕ → List ℕ → List ℕ
-listed file cards j k zero t = t
-listed file cards j k (suc n) t =
+-- the table t with the cell records among n records from record k on laid over it, each with its byte at place j
+abbrev pub listedOver : List ℕ → List ℕ → ℕ → ℕ → ℕ → List ℕ → List ℕ
+listedOver file ks j k zero t = t
+listedOver file ks j k (suc n) t =
     let r = recordAt file k in
-    listed file cards j (suc k) n (cond (eqb (at r 0) 3) (set t (listedCell cards r) (at r j)) t)
+    listedOver file ks j (suc k) n (cond (eqb (at r 0) 3) (set t (listedCell ks r) (at r j)) t)
 
 -- the limits of a cell that is not listed
 abbrev pub unlistedLower : Seen → ℕ
@@ -95,6 +95,6 @@ unlistedUpper s = s .m - 1
 abbrev pub fileLimits : List ℕ → Seen → Limits
 fileLimits file s =
     record {
-      lower = listed file (s .cards) 1 0 (length file / 16) (replicate (cells (places (s .cards))) (unlistedLower s));
-      upper = listed file (s .cards) 2 0 (length file / 16) (replicate (cells (places (s .cards))) (unlistedUpper s));
+      lower = listedOver file (places (s .cards)) 1 0 (length file / 16) (replicate (cells (places (s .cards))) (unlistedLower s));
+      upper = listedOver file (places (s .cards)) 2 0 (length file / 16) (replicate (cells (places (s .cards))) (unlistedUpper s));
     }

@@ -1,6 +1,8 @@
 -- 01, Places where a call stops: a call accepts, with what it then answers or writes, or refuses.
 use Prim.Native.Nat.{ℕ}
-use mathlib.Core.Bool.{Bool, true, false}
+use mathlib.Core.Bool.{Bool, true, false, _&&_}
+use mathlib.Core.List.{List, [], _∷_}
+use lib.Dec.{leb}
 use Rattle.rules.specs.declared.Refusal.{Refusal}
 use Rattle.rules.specs.Refusal.{refusalNumber}
 
@@ -22,3 +24,8 @@ andThen (refused q) f = refused q
 abbrev pub verdictNumber : {A : Type 0} → Verdict A → ℕ
 verdictNumber (accepted a) = 0
 verdictNumber (refused q) = refusalNumber q
+
+-- row 10: every lent buffer, by its length, holds n bytes
+abbrev pub roomy : ℕ → List ℕ → Bool
+roomy n [] = true
+roomy n (b ∷ bs) = leb n b && roomy n bs
