@@ -77,12 +77,14 @@ abbrev pub judgeReading : List ℕ → ℕ → ℕ → Verdict Seen
 judgeReading file lower upper =
     andThen (judgeFile file) (λ s. unless (leb (cells (places (s .cards))) lower && leb (cells (places (s .cards))) upper) ShortBuffer (accepted s))
 
--- the table t with the cell records among n records from record k on laid over it, each with its byte at place j
+-- the table t after one record: a cell record lays its byte at place j over the cell that it names
+abbrev pub laidOver : List ℕ → List ℕ → ℕ → List ℕ → List ℕ
+laidOver r ks j t = cond (eqb (at r 0) 3) (set t (listedCell ks r) (at r j)) t
+
+-- after n records from record k on
 abbrev pub listedOver : List ℕ → List ℕ → ℕ → ℕ → ℕ → List ℕ → List ℕ
 listedOver file ks j k zero t = t
-listedOver file ks j k (suc n) t =
-    let r = recordAt file k in
-    listedOver file ks j (suc k) n (cond (eqb (at r 0) 3) (set t (listedCell ks r) (at r j)) t)
+listedOver file ks j k (suc n) t = listedOver file ks j (suc k) n (laidOver (recordAt file k) ks j t)
 
 -- the limits of a cell that is not listed
 abbrev pub unlistedLower : Seen → ℕ

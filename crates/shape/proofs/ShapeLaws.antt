@@ -30,6 +30,10 @@ pub cards-from : (n : ℕ) (l : List ℕ) (m : ℕ) → length l ≡ 8 → cards
 unfolding cardsOf
 cards-from n l m e = eight-list l e
 
+pub from-cards : (s : Shape) → shapeFrom (s .n) (cardsOf s) (s .m) ≡ s
+unfolding cardsOf
+from-cards s = refl
+
 pub sound-from : (n : ℕ) (l : List ℕ) (m : ℕ) → length l ≡ 8 → isSound (shapeFrom n l m) ≡ shapeSound n l m
 sound-from n l m e = ap (λ (cards : List ℕ). shapeSound n cards m) (cards-from n l m e)
 

@@ -1,0 +1,13 @@
+-- `table_file::records::first_seen` meets its contract.
+-- Assumes nothing.
+use mathlib.Core.Path.{refl}
+use Rattle.shape.specs.Shapes.{cardsOf}
+use Rattle.table_file.proofs.records.first_seen.Statement.{statement}
+use Rattle.table_file.proofs.records.first_seen.Tie as tie
+
+returns : tie.Need-returns
+unfolding cardsOf
+returns c = refl
+
+pub first-seen-spec : {M : Type 1} → statement M
+first-seen-spec = tie.close (tie.spec returns)

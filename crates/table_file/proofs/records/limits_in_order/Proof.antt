@@ -1,0 +1,16 @@
+-- `table_file::records::limits_in_order` meets its contract.
+-- Assumes nothing.
+use mathlib.Core.Path.{sym, _∙_}
+use borrow.Author.Tests.{le-leb, lt-leb}
+use Rattle.table_file.proofs.RecordLaws.{and-left, and-pass}
+use Rattle.table_file.proofs.records.limits_in_order.Statement.{statement}
+use Rattle.table_file.proofs.records.limits_in_order.Tie as tie
+
+returns : tie.Need-returns
+returns c = sym (and-pass _ (le-leb _ _ (c .if1 .taken)))
+
+returns-2 : tie.Need-returns-2
+returns-2 c = lt-leb _ _ (c .if1 .left) ∙ sym (and-left _ (lt-leb _ _ (c .if1 .left)))
+
+pub limits-in-order-spec : {M : Type 1} → statement M
+limits-in-order-spec = tie.close (tie.spec returns returns-2)

@@ -1,0 +1,13 @@
+-- `table_file::records::with_grades` meets its contract.
+-- Assumes nothing.
+use mathlib.Core.Path.{refl}
+use Rattle.shape.specs.Shapes.{cardsOf}
+use Rattle.table_file.proofs.records.with_grades.Statement.{statement}
+use Rattle.table_file.proofs.records.with_grades.Tie as tie
+
+returns : tie.Need-returns
+unfolding cardsOf
+returns c = refl
+
+pub with-grades-spec : {M : Type 1} → statement M
+with-grades-spec = tie.close (tie.spec returns)

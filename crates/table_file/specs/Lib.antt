@@ -1,0 +1,2 @@
+-- What the contracts of `table_file` cite.
+pub mod Reading

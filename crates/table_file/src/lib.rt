@@ -1,0 +1,60 @@
+// Reading a table file: one pass judges every record, and only then a second pass writes the limits.
+ghost use mathlib.Core.Path.{_≡_};
+ghost use Rattle.rules.specs.TableFile.{judgeFile};
+ghost use Rattle.table_file.specs.Reading.{verdictOf, Read};
+use rules::Refusal;
+use shape::Shape;
+
+pub mod records;
+pub mod writing;
+
+use crate::records::Judged;
+
+pub enum TableAnswer {
+    Table(Shape),
+    Refused(Refusal),
+}
+
+// 01, Places where a call stops: the longest table file.
+const MAX_LENGTH: usize = 16528;
+
+// The verdict on a file, whatever buffers there are for its limits.
+pub fn judge(file: &[u8]) -> Judged
+    ensures { λ r. ⌜ verdictOf r ≡ judgeFile (now (file .entry)) ⌝ }
+{
+    if file.len() == 0 {
+        return Judged::Refused(Refusal::FileLength);
+    }
+    if file.len() % 16 != 0 {
+        return Judged::Refused(Refusal::FileLength);
+    }
+    if MAX_LENGTH < file.len() {
+        return Judged::Refused(Refusal::FileLength);
+    }
+    records::records(file)
+}
+
+// The shape of the table that a file holds, its limits being written to the two buffers, or why
+// there is none.
+pub fn read_table(file: &[u8], lower: &mut [u8], upper: &mut [u8]) -> TableAnswer
+    ensures { λ r. ⌜ Read (now (file .entry)) (now (lower .entry)) (now (upper .entry)) r (now (lower .exit)) (now (upper .exit)) ⌝ }
+{
+    match judge(file) {
+        Judged::Refused(refusal) => TableAnswer::Refused(refusal),
+        Judged::Accepted(seen) => {
+            let shape = seen.shape;
+            let cells = shape.cells();
+            if lower.len() < cells {
+                return TableAnswer::Refused(Refusal::ShortBuffer);
+            }
+            if upper.len() < cells {
+                return TableAnswer::Refused(Refusal::ShortBuffer);
+            }
+            let ks = shape.places();
+            let top = shape.m - 1;
+            writing::write_limits(file, ks, 1, 0, lower);
+            writing::write_limits(file, ks, 2, top, upper);
+            TableAnswer::Table(shape)
+        }
+    }
+}

@@ -1,0 +1,51 @@
+// Writing the limits of a file that was accepted.
+ghost use mathlib.Core.Path.{_≡_};
+ghost use mathlib.Core.List.{_++_};
+ghost use Prim.Native.Nat.{ℕ, _+_, _*_, _/_, _≤_, _<_};
+ghost use lib.ListN.{length, replicate, drop};
+ghost use Rattle.rules.specs.Cell.{Positive, cells};
+ghost use Rattle.rules.specs.TableFile.{laidOver, listedOver};
+ghost use Rattle.table_file.specs.Reading.{RecordBelow, ListedBelow};
+
+// The first n bytes all x.
+fn fill(to: &mut [u8], n: usize, x: u8)
+    requires { ⌜ n ≤ length (now to) ⌝ }
+    ensures { λ _. ⌜ now (to .exit) ≡ replicate n x ++ drop n (now (to .entry)) ⌝ }
+{
+    for c in 0..n {
+        to[c] = x;
+    }
+}
+
+// The byte at place j of a cell record, at the cell that it names. Any other record writes nothing.
+fn store_record(r: &[u8], ks: [u8; 8], j: usize, to: &mut [u8])
+    requires { ⌜ Positive ks × (cells ks ≤ 1024) × (cells ks ≤ length (now to)) × (j < 16) × (length (now r) ≡ 16) × RecordBelow (now r) ks ⌝ }
+    ensures { λ _. ⌜ now (to .exit) ≡ laidOver (now (r .entry)) ks j (now (to .entry)) ⌝ }
+{
+    if r[0] == 3 {
+        let cell = places::number(ks, r, 8);
+        to[cell] = r[j];
+    }
+}
+
+// The same for every record of a file.
+fn store(file: &[u8], ks: [u8; 8], j: usize, to: &mut [u8])
+    requires { ⌜ Positive ks × (cells ks ≤ 1024) × (cells ks ≤ length (now to)) × (j < 16) × (length (now file) ≤ 16528) × ListedBelow (now file) ks ⌝ }
+    ensures { λ _. ⌜ now (to .exit) ≡ listedOver (now (file .entry)) ks j 0 (length (now (file .entry)) / 16) (now (to .entry)) ⌝ }
+{
+    let count = file.len() / 16;
+    for k in 0..count {
+        let a = 16 * k;
+        let b = a + 16;
+        store_record(&file[a..b], ks, j, to);
+    }
+}
+
+// A limit of every cell: what the file lists, over the same limit for the cells that it doesn't.
+pub fn write_limits(file: &[u8], ks: [u8; 8], j: usize, unlisted: u8, to: &mut [u8])
+    requires { ⌜ Positive ks × (cells ks ≤ 1024) × (cells ks ≤ length (now to)) × (j < 16) × (length (now file) ≤ 16528) × ListedBelow (now file) ks ⌝ }
+    ensures { λ _. ⌜ now (to .exit) ≡ listedOver (now (file .entry)) ks j 0 (length (now (file .entry)) / 16) (replicate (cells ks) unlisted) ++ drop (cells ks) (now (to .entry)) ⌝ }
+{
+    fill(to, places::cell_count(ks), unlisted);
+    store(file, ks, j, to);
+}
