@@ -1,0 +1,5 @@
+-- What several proofs use.
+pub mod PartLaws
+pub mod ScanLaws
+pub mod LineLaws
+pub mod OverLaws

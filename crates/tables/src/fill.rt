@@ -1,0 +1,66 @@
+// Functions that fill one part of a buffer from others.
+use crate::extremes;
+use rules::Gate;
+ghost use Prim.Native.Nat.{ℕ, _-_, _≤_, _<_};
+ghost use mathlib.Core.Path.{_≡_};
+ghost use Rattle.rules.specs.Bytes.{at, tabulate};
+ghost use Rattle.rules.specs.Join.{above};
+ghost use Rattle.rules.specs.Network.{combine};
+ghost use Rattle.tables.specs.Line.{best};
+ghost use Rattle.tables.specs.Part.{part, Laid, Two};
+
+pub fn copy(w: &mut [u8], from: usize, to: usize, n: usize)
+    requires { ⌜ Two (now w) from to n ⌝ }
+    ensures { λ _. ⌜ Laid (now (w .entry)) to (part (now (w .entry)) from n) n (now (w .exit)) ⌝ }
+{
+    for c in 0..n {
+        w[to + c] = w[from + c];
+    }
+}
+
+// What each grade lacks to the top grade.
+pub fn complement(w: &mut [u8], top: u8, from: usize, to: usize, n: usize)
+    requires { ⌜ Two (now w) from to n × ((c : ℕ) → c < n → at (part (now w) from n) c ≤ top) ⌝ }
+    ensures { λ _. ⌜ Laid (now (w .entry)) to (tabulate n (λ c. top - at (part (now (w .entry)) from n) c)) n (now (w .exit)) ⌝ }
+{
+    for c in 0..n {
+        w[to + c] = top - w[from + c];
+    }
+}
+
+fn if_above(grade: u8, limit: u8) -> u8
+    ensures { λ r. ⌜ r ≡ above grade limit ⌝ }
+{
+    if limit < grade { grade } else { 0 }
+}
+
+// The low table's grades where they are above the high table's, else 0.
+pub fn keep_above(w: &mut [u8], low: usize, high: usize, to: usize, n: usize)
+    requires { ⌜ Two (now w) low to n × Two (now w) high to n ⌝ }
+    ensures { λ _. ⌜ Laid (now (w .entry)) to (tabulate n (λ c. above (at (part (now (w .entry)) low n) c) (at (part (now (w .entry)) high n) c))) n (now (w .exit)) ⌝ }
+{
+    for c in 0..n {
+        w[to + c] = if_above(w[low + c], w[high + c]);
+    }
+}
+
+// Whether a gate takes the greater of two grades.
+fn takes_greater(gate: Gate) -> bool
+    ensures { λ r. ⌜ ((x y : ℕ) → best r x y ≡ combine gate x y) ⌝ }
+{
+    match gate {
+        Gate::Min => false,
+        Gate::Max => true,
+    }
+}
+
+// The gate of two tables.
+pub fn combine(w: &mut [u8], gate: Gate, a: usize, b: usize, to: usize, n: usize)
+    requires { ⌜ Two (now w) a to n × Two (now w) b to n ⌝ }
+    ensures { λ _. ⌜ Laid (now (w .entry)) to (tabulate n (λ c. combine gate (at (part (now (w .entry)) a n) c) (at (part (now (w .entry)) b n) c))) n (now (w .exit)) ⌝ }
+{
+    let greatest = takes_greater(gate);
+    for c in 0..n {
+        w[to + c] = extremes::extreme(greatest, w[a + c], w[b + c]);
+    }
+}

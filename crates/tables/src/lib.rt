@@ -1,0 +1,5 @@
+// Tables of one byte for each cell, as parts of one buffer.
+pub mod extremes;
+pub mod fill;
+pub mod moves;
+pub mod tests;
