@@ -1,4 +1,6 @@
 // The types that the rules of document 01 speak of. The rules themselves are definitions, in specs/.
+ghost use mathlib.Core.Path.{_≡_};
+ghost use Rattle.rules.specs.Refusal.{refusalNumber};
 
 // 01, Joins: the gate that combines two blocks, and the gate of a network's record.
 pub enum Gate {
@@ -32,4 +34,25 @@ pub enum Refusal {
     Network,
     // A cell number that the table does not have.
     CellNumber,
+}
+
+impl Refusal {
+    pub fn number(self) -> u32
+        ensures { λ r. ⌜ r ≡ refusalNumber self ⌝ }
+    {
+        match self {
+            Refusal::FileLength => 1,
+            Refusal::RecordBytes => 2,
+            Refusal::RecordOrder => 3,
+            Refusal::ShapeRange => 4,
+            Refusal::GradeLimits => 5,
+            Refusal::CellValues => 6,
+            Refusal::Sets => 7,
+            Refusal::NoJoin => 8,
+            Refusal::FirstBlock => 9,
+            Refusal::ShortBuffer => 10,
+            Refusal::Network => 11,
+            Refusal::CellNumber => 12,
+        }
+    }
 }
