@@ -51,7 +51,7 @@ module _ (n : ℕ) (cards : List ℕ) (m : ℕ) (eight : length cards ≡ 8) (h 
   each-place : T (all 8 (λ i. placeSound n i (at cards i)))
   each-place = and-l (all 8 (λ i. placeSound n i (at cards i))) ((leb 2 m && leb m maxGrades) && leb (cells (places cards)) maxCells) rest
 
-  few-values : (i : ℕ) → card (places cards) i ≤ 8
+  pub few-values : (i : ℕ) → card (places cards) i ≤ 8
   few-values i =
       by-order 8 i (λ le. omega (arith, places-card cards i, at-past cards i (omega arith)))
       (λ lt. omega (arith, places-card cards i, place-small n i (at cards i) (all-at 8 (λ i. placeSound n i (at cards i)) each-place i lt)))

@@ -1,0 +1,150 @@
+-- The search for the first cell outside its limits, and what it means that there is none.
+use Prim.Native.Nat.{ℕ, zero, suc, _+_, _-_, _≤_, _<_}
+use mathlib.Core.Path.{_≡_, refl, sym, _∙_, ap, subst}
+use mathlib.Core.Bool.{Bool, true, false, cond, _&&_}
+use mathlib.Core.List.{List, [], _∷_}
+use native.Mathlib.Nat.{le-refl}
+use native.Mathlib.Numerals.{add-one}
+use native.Mathlib.Omega.{arith}
+use lib.Dec.{T, leb, leb→le, le→leb}
+use lib.ListN.{length}
+use Rattle.rules.specs.declared.Refusal.{Refusal}
+use Rattle.rules.specs.declared.Refusal.the-variants.{ShapeRange, GradeLimits, ShortBuffer, Network}
+use Rattle.rules.specs.Refusal.{refusalNumber}
+use Rattle.rules.specs.Bytes.{at}
+use Rattle.rules.specs.Cell.{cells}
+use Rattle.rules.specs.Limits.{Limits, limitsSound}
+use Rattle.rules.specs.Verdict.{Verdict, accepted, refused, unless, roomy, verdictNumber}
+use Rattle.rules.specs.Network.{evaluate}
+use Rattle.rules.specs.NetworkCalls.{gradeWithin, CheckResult, within, outside, checkFrom}
+use Rattle.shape.specs.declared.Shape.{Shape}
+use Rattle.shape.specs.Shapes.{placesOf, isSound}
+use Rattle.laws.proofs.TestLaws.{and-l, and-r, and-i, by-order}
+use Rattle.network.specs.declared.CheckAnswer.{CheckAnswer}
+use Rattle.network.specs.declared.CheckAnswer.the-variants.{Within, Outside, Refused}
+use Rattle.network.specs.Grades.{Kept}
+use Rattle.network.specs.Checking.{checkVerdict, limitsOf, checkRows, EveryWithin, Checked}
+use Rattle.network.proofs.TestLaws.{passed}
+use Rattle.network.proofs.CallLaws.{networkTest, roomTest}
+
+cond-within : (b : Bool) (x : CheckResult) (c q : ℕ) → cond b x (outside c q) ≡ within → T b × (x ≡ within)
+cond-within true x c q e = (tt, e)
+cond-within false x c q e = let z : _≡_ {A = ℕ} 0 1 = cc in absurd (omega arith)
+
+module _ (ks : List ℕ) (l : Limits) (net : List ℕ) where
+  abbrev pub cellWithin : ℕ → Bool
+  cellWithin c = gradeWithin l c (evaluate ks net c)
+
+  -- one cell more, of n
+  one-more : (c n : ℕ) (b : Bool) → c < n → cellWithin c ≡ b → checkFrom ks l net c (n - c) ≡ cond b (checkFrom ks l net (c + 1) (n - (c + 1))) (outside c (evaluate ks net c))
+  one-more c n b h e =
+      let s : n - c ≡ suc (n - (c + 1)) = omega arith in
+      ap (checkFrom ks l net c) s
+      ∙ ap (λ (d : ℕ). cond (cellWithin c) (checkFrom ks l net d (n - (c + 1))) (outside c (evaluate ks net c))) (sym (add-one c))
+      ∙ ap (λ (q : Bool). cond q (checkFrom ks l net (c + 1) (n - (c + 1))) (outside c (evaluate ks net c))) e
+
+  pub check-next : (c n : ℕ) → c < n → cellWithin c ≡ true → checkFrom ks l net c (n - c) ≡ checkFrom ks l net (c + 1) (n - (c + 1))
+  check-next c n = one-more c n true
+
+  pub check-stop : (c n : ℕ) → c < n → cellWithin c ≡ false → checkFrom ks l net c (n - c) ≡ outside c (evaluate ks net c)
+  check-stop c n = one-more c n false
+
+  pub check-end : (c n : ℕ) → n ≤ c → checkFrom ks l net c (n - c) ≡ within
+  check-end c n h = let z : n - c ≡ 0 = omega arith in ap (checkFrom ks l net c) z
+
+  -- nothing is found exactly when every cell is within
+  check-means : (n c : ℕ) → checkFrom ks l net c n ≡ within → (d : ℕ) → c ≤ d → d < c + n → T (cellWithin d)
+  check-means zero c e d h g = absurd (omega arith)
+  check-means (suc n) c e d h g =
+      let s = cond-within (cellWithin c) (checkFrom ks l net (suc c) n) c (evaluate ks net c) e in
+      by-order d c (λ le. let same : c ≡ d = omega arith in subst (λ (k : ℕ). T (cellWithin k)) same (s .0)) (λ lt. check-means n (suc c) (s .1) d lt (omega arith))
+
+  check-when : (n c : ℕ) → ((d : ℕ) → c ≤ d → d < c + n → T (cellWithin d)) → checkFrom ks l net c n ≡ within
+  check-when zero c h = refl
+  check-when (suc n) c h =
+      ap (λ (b : Bool). cond b (checkFrom ks l net (suc c) n) (outside c (evaluate ks net c))) (passed (cellWithin c) (h c (le-refl c) (omega arith)))
+      ∙ check-when n (suc c) (λ d a b. h d (omega arith) (omega arith))
+
+-- a row that did not stop the call
+unless-accepted : {A : Type 0} (b : Bool) (q : Refusal) (v : Verdict A) (x : A) → unless b q v ≡ accepted x → v ≡ accepted x
+unless-accepted true q v x e = e
+unless-accepted false q v x e = let z : _≡_ {A = ℕ} 0 1 = cc in absurd (omega arith)
+
+unless-zero : {A : Type 0} (b : Bool) (q : Refusal) (v : Verdict A) → (refusalNumber q ≡ 0 → ⊥) → verdictNumber (unless b q v) ≡ 0 → unless b q v ≡ v
+unless-zero true q v n e = refl
+unless-zero false q v n e = absurd (n e)
+
+accepted-same : {A : Type 0} (x y : A) → accepted x ≡ accepted y → x ≡ y
+accepted-same x y e = cc
+
+answer-within : (answer : CheckAnswer) → checkVerdict answer ≡ accepted within → answer ≡ Within
+answer-within Within e = refl
+answer-within (Outside c q) e = let z : _≡_ {A = ℕ} 0 1 = cc in absurd (omega arith)
+answer-within (Refused r) e = let z : _≡_ {A = ℕ} 0 1 = cc in absurd (omega arith)
+
+pub never-refused : {P : Type 0} (answer : CheckAnswer) (x : CheckResult) → checkVerdict answer ≡ accepted x → (r : Refusal) → answer ≡ Refused r → P
+never-refused answer x e r w =
+    let v : refused r ≡ accepted x = sym (ap checkVerdict w) ∙ e in
+    let z : _≡_ {A = ℕ} 0 1 = cc in
+    absurd (omega arith)
+
+module _ (shape : Shape) (net lower upper work : List ℕ) where
+  abbrev found : CheckResult
+  found = checkFrom (placesOf shape) (limitsOf lower upper) net 0 (cells (placesOf shape))
+
+  room : Bool
+  room = roomy (cells (placesOf shape)) (length lower ∷ length upper ∷ []) && roomTest shape net work
+
+  ordered : Bool
+  ordered = limitsSound (placesOf shape) (shape .m) (limitsOf lower upper)
+
+  rows-found : (x : CheckResult) → checkRows shape net lower upper work ≡ accepted x → found ≡ x
+  unfolding room ordered
+  rows-found x e =
+      let network-row : Verdict CheckResult = unless (networkTest shape net) Network (accepted found) in
+      let limits-row : Verdict CheckResult = unless ordered GradeLimits network-row in
+      accepted-same found x
+      (unless-accepted (networkTest shape net) Network (accepted found) x
+      (unless-accepted ordered GradeLimits network-row x
+      (unless-accepted room ShortBuffer limits-row x
+      (unless-accepted (isSound shape) ShapeRange (unless room ShortBuffer limits-row) x e))))
+
+  rows-accept : verdictNumber (checkRows shape net lower upper work) ≡ 0 → checkRows shape net lower upper work ≡ accepted found
+  unfolding room ordered
+  rows-accept e =
+      let network-row : Verdict CheckResult = unless (networkTest shape net) Network (accepted found) in
+      let limits-row : Verdict CheckResult = unless ordered GradeLimits network-row in
+      let room-row : Verdict CheckResult = unless room ShortBuffer limits-row in
+      let a : unless (isSound shape) ShapeRange room-row ≡ room-row = unless-zero (isSound shape) ShapeRange room-row (λ q. omega arith) e in
+      let b : room-row ≡ limits-row = unless-zero room ShortBuffer limits-row (λ q. omega arith) (sym (ap verdictNumber a) ∙ e) in
+      let d : limits-row ≡ network-row = unless-zero ordered GradeLimits network-row (λ q. omega arith) (sym (ap verdictNumber (a ∙ b)) ∙ e) in
+      let f : network-row ≡ accepted found = unless-zero (networkTest shape net) Network (accepted found) (λ q. omega arith) (sym (ap verdictNumber (a ∙ b ∙ d)) ∙ e) in
+      a ∙ b ∙ d ∙ f
+
+  every : found ≡ within → EveryWithin shape net lower upper
+  every e c h =
+      let t = check-means (placesOf shape) (limitsOf lower upper) net (cells (placesOf shape)) 0 e c (omega arith) (omega arith) in
+      let q = evaluate (placesOf shape) net c in
+      (leb→le (at lower c) q (and-l (leb (at lower c) q) (leb q (at upper c)) t), leb→le q (at upper c) (and-r (leb (at lower c) q) (leb q (at upper c)) t))
+
+  none-outside : EveryWithin shape net lower upper → found ≡ within
+  none-outside h =
+      check-when (placesOf shape) (limitsOf lower upper) net (cells (placesOf shape)) 0
+      (λ c a b.
+      let q = evaluate (placesOf shape) net c in
+      let p = h c (omega arith) in
+      and-i (leb (at lower c) q) (leb q (at upper c)) (le→leb (at lower c) q (p .0)) (le→leb q (at upper c) (p .1)))
+
+  -- the plain words follow from the answer
+  pub checked : (after : List ℕ) (answer : CheckAnswer) → ((r : Refusal) → answer ≡ Refused r → after ≡ work) → Kept net work after
+      → checkVerdict answer ≡ checkRows shape net lower upper work → Checked shape net lower upper work after answer
+  checked after answer keeps kept e =
+      record {
+        answers = e;
+        refusal-keeps = keeps;
+        kept = kept;
+        within-means = λ w.
+            let rows : checkRows shape net lower upper work ≡ accepted within = sym e ∙ ap checkVerdict w in
+            (ap verdictNumber rows, every (rows-found within rows));
+        within-when = λ z h. answer-within answer (e ∙ rows-accept z ∙ ap accepted (none-outside h));
+      }

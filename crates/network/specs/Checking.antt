@@ -1,0 +1,54 @@
+-- What `check` promises.
+use Prim.Native.Nat.{ℕ, _≤_, _<_}
+use mathlib.Core.Path.{_≡_}
+use mathlib.Core.List.{List}
+use lib.ListN.{length}
+use Rattle.rules.specs.declared.Refusal.{Refusal}
+use Rattle.rules.specs.Bytes.{at}
+use Rattle.rules.specs.Cell.{cells}
+use Rattle.rules.specs.Limits.{Limits}
+use Rattle.rules.specs.Verdict.{Verdict, accepted, refused, verdictNumber}
+use Rattle.rules.specs.Network.{evaluate}
+use Rattle.rules.specs.NetworkCalls.{CheckResult, within, outside, checkFrom, checkCall}
+use Rattle.shape.specs.declared.Shape.{Shape}
+use Rattle.shape.specs.Shapes.{cardsOf, placesOf}
+use Rattle.network.specs.declared.CheckAnswer.{CheckAnswer}
+use Rattle.network.specs.declared.CheckAnswer.the-variants.{Within, Outside, Refused}
+use Rattle.network.specs.Grades.{Ready, Kept}
+
+abbrev pub checkVerdict : CheckAnswer → Verdict CheckResult
+checkVerdict Within = accepted within
+checkVerdict (Outside cell grade) = accepted (outside cell grade)
+checkVerdict (Refused r) = refused r
+
+abbrev pub limitsOf : List ℕ → List ℕ → Limits
+limitsOf lower upper = record { lower = lower; upper = upper }
+
+-- the rows of document 01 for a check
+abbrev pub checkRows : Shape → List ℕ → List ℕ → List ℕ → List ℕ → Verdict CheckResult
+checkRows shape net lower upper work =
+    checkCall (shape .n) (cardsOf shape) (shape .m) net (length work) (limitsOf lower upper) (length lower) (length upper)
+
+-- in every cell the network's grade lies between the limits
+abbrev pub EveryWithin : Shape → List ℕ → List ℕ → List ℕ → Type 0
+EveryWithin shape net lower upper =
+    (c : ℕ) → c < cells (placesOf shape) → (at lower c ≤ evaluate (placesOf shape) net c) × (evaluate (placesOf shape) net c ≤ at upper c)
+
+-- the answer by the rows of document 01; in plain words, `Within` exactly when the call is accepted, its verdict having number 0, and every cell is within; the work buffer as for `evaluate`
+pub record Checked (shape : Shape) (net lower upper work after : List ℕ) (answer : CheckAnswer) : Type 0 where
+  pub answers : checkVerdict answer ≡ checkRows shape net lower upper work
+  pub within-means : answer ≡ Within → (verdictNumber (checkRows shape net lower upper work) ≡ 0) × EveryWithin shape net lower upper
+  pub within-when : verdictNumber (checkRows shape net lower upper work) ≡ 0 → EveryWithin shape net lower upper → answer ≡ Within
+  pub refusal-keeps : (r : Refusal) → answer ≡ Refused r → after ≡ work
+  pub kept : Kept net work after
+
+-- what the search for a cell outside asks for
+pub record Checkable (shape : Shape) (net lower upper work : List ℕ) : Type 0 where
+  pub ready : Ready shape net work
+  pub lower-room : cells (placesOf shape) ≤ length lower
+  pub upper-room : cells (placesOf shape) ≤ length upper
+
+-- and what it finds
+pub record Searched (shape : Shape) (net lower upper work after : List ℕ) (answer : CheckAnswer) : Type 0 where
+  pub finds : checkVerdict answer ≡ accepted (checkFrom (placesOf shape) (limitsOf lower upper) net 0 (cells (placesOf shape)))
+  pub kept : Kept net work after

@@ -1,0 +1,4 @@
+-- What the contracts of `network` cite.
+pub mod Grades
+pub mod Evaluating
+pub mod Checking
