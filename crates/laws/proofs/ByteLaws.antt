@@ -20,10 +20,10 @@ use Rattle.rules.specs.Network.{Record, constant, literal, gate, recordBytes, n
 grade-byte : (i : ℕ) (gs : List ℕ) (v : ℕ) → v < 8 → at (recordBytes (literal i gs)) (8 + v) ≡ at (gs ++ replicate 8 0) v
 grade-byte i gs v h = getD-append-add (1 ∷ i ∷ replicate 6 0) (take 8 (gs ++ replicate 8 0)) v 0 ∙ getD-take 8 (gs ++ replicate 8 0) v 0 h
 
-grade-here : (gs : List ℕ) (v : ℕ) → v < length gs → at (gs ++ replicate 8 0) v ≡ at gs v
+pub grade-here : (gs : List ℕ) (v : ℕ) → v < length gs → at (gs ++ replicate 8 0) v ≡ at gs v
 grade-here gs v h = List·getD-append gs (replicate 8 0) 0 v h
 
-grade-past : (gs : List ℕ) (v : ℕ) → length gs ≤ v → v < 8 → at (gs ++ replicate 8 0) v ≡ 0
+pub grade-past : (gs : List ℕ) (v : ℕ) → length gs ≤ v → v < 8 → at (gs ++ replicate 8 0) v ≡ 0
 grade-past gs v h l =
     let e : length gs + (v - length gs) ≡ v = omega arith in
     subst (λ (w : ℕ). at (gs ++ replicate 8 0) w ≡ 0) e

@@ -1,6 +1,6 @@
 -- Laws of parts of a buffer: for loops that fill one, and for what stands there afterwards.
 use Prim.Native.Nat.{ℕ, _+_, _≤_, _<_}
-use mathlib.Core.Path.{_≡_, refl, sym, _∙_}
+use mathlib.Core.Path.{_≡_, refl, sym, _∙_, subst}
 use mathlib.Core.List.{List}
 use mathlib.Core.Logic.{⊎-elim}
 use native.Mathlib.Omega.{arith}
@@ -63,6 +63,9 @@ filled-all {w} {a} {f} n e l = filled-laid (tabulate n f) n e l (λ k lt. sym (a
 -- a table that is equal at each cell
 pub laid-same : {w : List ℕ} {a : ℕ} {t : List ℕ} {n : ℕ} {w′ : List ℕ} (u : List ℕ) → Laid w a t n w′ → ((k : ℕ) → k < n → at t k ≡ at u k) → Laid w a u n w′
 laid-same u l e = record { len = l .len; here = λ k h. l .here k h ∙ e k h; before = l .before; after = l .after }
+
+pub laid-as : {w : List ℕ} {a : ℕ} {t : List ℕ} {n : ℕ} {w′ u : List ℕ} → t ≡ u → Laid w a t n w′ → Laid w a u n w′
+laid-as {w} {a} {t} {n} {w′} e l = subst (λ (v : List ℕ). Laid w a v n w′) e l
 
 pub laid-self : (w : List ℕ) (a n : ℕ) → Laid w a (part w a n) n w
 laid-self w a n = record { len = refl; here = λ k h. sym (part-at w a n k h); before = λ j h. refl; after = λ j h. refl }

@@ -1,0 +1,2 @@
+-- Laws of records and their bytes.
+pub mod LiteralLaws

@@ -1,0 +1,29 @@
+-- `records::put_selector` meets its contract.
+-- Assumes nothing.
+use lib.ListN.{set, length-set}
+use Rattle.tables.proofs.PartLaws.{laid-as}
+use lib.Dec.{eqb}
+use lib.ListN.{replicate}
+use Rattle.rules.specs.Bytes.{pick}
+use Rattle.records.proofs.LiteralLaws.{literal-padded, padded-one}
+use borrow.Author.Needs.{needs}
+use Rattle.records.proofs.put_selector.Statement.{statement}
+use Rattle.records.proofs.put_selector.Tie as tie
+
+array-write-grades : tie.Need-array-write-grades
+array-write-grades c = search needs
+
+put-grades-requires : tie.Need-put-grades-requires
+put-grades-requires c κs = search needs
+
+same-length : tie.Need-same-length
+same-length c = search needs
+
+returns : tie.Need-returns
+returns c =
+    let a = c .before .before .before .before .before .args in
+    laid-as
+    (literal-padded (a .condition) (a .card) (λ v. pick (eqb v (a .k)) (a .top) 0) (set (replicate 8 0) (a .k) (a .top)) (search needs) (length-set (replicate 8 0) (a .k) (a .top)) (padded-one (a .card) (a .k) (a .top) (search needs) (search needs))) (c .before .before .put-grades .ensures)
+
+pub put-selector-spec : {M : Type 1} → statement M
+put-selector-spec = tie.close (tie.spec array-write-grades put-grades-requires same-length returns)

@@ -1,0 +1,127 @@
+// The records of a network, each written whole: record r at byte 16 × r.
+use rules::Gate;
+ghost use Prim.Native.Nat.{ℕ, _+_, _-_, _*_, _≤_, _<_};
+ghost use mathlib.Core.Path.{_≡_};
+ghost use lib.Dec.{eqb};
+ghost use lib.ListN.{length};
+ghost use Rattle.rules.specs.Bytes.{at, pick, tabulate};
+ghost use Rattle.rules.specs.Network.{constant, literal, gate, recordBytes, kindOf};
+ghost use Rattle.tables.specs.Part.{part, Laid};
+ghost use Rattle.records.specs.Grades.{Padded};
+
+// Sixteen bytes as record r.
+fn put(net: &mut [u8], r: usize, bytes: [u8; 16])
+    requires { ⌜ 16 * r + 16 ≤ length (now net) ⌝ }
+    ensures { λ _. ⌜ Laid (now (net .entry)) (16 * r) bytes 16 (now (net .exit)) ⌝ }
+{
+    let a = 16 * r;
+    for j in 0..16 {
+        net[a + j] = bytes[j];
+    }
+}
+
+pub fn put_constant(net: &mut [u8], r: usize, grade: u8)
+    requires { ⌜ 16 * r + 16 ≤ length (now net) ⌝ }
+    ensures { λ _. ⌜ Laid (now (net .entry)) (16 * r) (recordBytes (constant grade)) 16 (now (net .exit)) ⌝ }
+{
+    put(net, r, [0, grade, 0, 0, 0, 0, 0, 0, 0, 0, 0, 0, 0, 0, 0, 0]);
+}
+
+fn kind(by: Gate) -> u8
+    ensures { λ k. ⌜ k ≡ kindOf by ⌝ }
+{
+    match by {
+        Gate::Min => 2,
+        Gate::Max => 3,
+    }
+}
+
+pub fn put_gate(net: &mut [u8], r: usize, by: Gate, left: usize, right: usize)
+    requires { ⌜ (16 * r + 16 ≤ length (now net)) × (left < 65536) × (right < 65536) ⌝ }
+    ensures { λ _. ⌜ Laid (now (net .entry)) (16 * r) (recordBytes (gate by left right)) 16 (now (net .exit)) ⌝ }
+{
+    let low_left = (left % 256) as u8;
+    let high_left = (left / 256) as u8;
+    let low_right = (right % 256) as u8;
+    let high_right = (right / 256) as u8;
+    put(
+        net,
+        r,
+        [
+            kind(by),
+            0,
+            0,
+            0,
+            low_left,
+            high_left,
+            low_right,
+            high_right,
+            0,
+            0,
+            0,
+            0,
+            0,
+            0,
+            0,
+            0,
+        ],
+    );
+}
+
+fn put_grades(net: &mut [u8], r: usize, condition: u8, grades: [u8; 8])
+    requires { ⌜ 16 * r + 16 ≤ length (now net) ⌝ }
+    ensures { λ _. ⌜ Laid (now (net .entry)) (16 * r) (recordBytes (literal condition grades)) 16 (now (net .exit)) ⌝ }
+{
+    put(
+        net,
+        r,
+        [
+            1,
+            condition,
+            0,
+            0,
+            0,
+            0,
+            0,
+            0,
+            grades[0],
+            grades[1],
+            grades[2],
+            grades[3],
+            grades[4],
+            grades[5],
+            grades[6],
+            grades[7],
+        ],
+    );
+}
+
+// The first `card` bytes of a table, then zeros.
+fn grades_of(table: &[u8], card: usize) -> [u8; 8]
+    requires { ⌜ (card ≤ 8) × (card ≤ length (now table)) ⌝ }
+    ensures { λ grades. ⌜ Padded card (at (now (table .entry))) grades ⌝ }
+{
+    let mut grades = [0u8; 8];
+    for v in 0..card {
+        grades[v] = table[v];
+    }
+    grades
+}
+
+// A literal with the first `card` grades of a table.
+pub fn put_literal(net: &mut [u8], r: usize, condition: u8, table: &[u8], card: usize)
+    requires { ⌜ (16 * r + 16 ≤ length (now net)) × (card ≤ 8) × (card ≤ length (now table)) ⌝ }
+    ensures { λ _. ⌜ Laid (now (net .entry)) (16 * r) (recordBytes (literal condition (tabulate card (at (now (table .entry)))))) 16 (now (net .exit)) ⌝ }
+{
+    put_grades(net, r, condition, grades_of(table, card));
+}
+
+// A literal that is the top grade at value k of `card` values, and 0 elsewhere.
+pub fn put_selector(net: &mut [u8], r: usize, condition: u8, card: usize, k: usize, top: u8)
+    requires { ⌜ (16 * r + 16 ≤ length (now net)) × (card ≤ 8) × (k < card) ⌝ }
+    ensures { λ _. ⌜ Laid (now (net .entry)) (16 * r) (recordBytes (literal condition (tabulate card (λ v. pick (eqb v k) top 0)))) 16 (now (net .exit)) ⌝ }
+{
+    let mut grades = [0u8; 8];
+    grades[k] = top;
+    put_grades(net, r, condition, grades);
+}
