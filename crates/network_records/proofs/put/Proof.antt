@@ -1,4 +1,4 @@
--- `records::put` meets its contract.
+-- `network_records::put` meets its contract.
 -- Assumes nothing.
 use mathlib.Core.Path.{_≡_, refl}
 use Prim.Native.Nat.{_-_, _*_, _≤_}
@@ -6,8 +6,8 @@ use native.Mathlib.Omega.{arith}
 use Rattle.rules.specs.Bytes.{at}
 use Rattle.tables.proofs.PartLaws.{Filled, filled-more, filled-laid}
 use borrow.Author.Needs.{needs}
-use Rattle.records.proofs.put.Statement.{statement}
-use Rattle.records.proofs.put.Tie as tie
+use Rattle.network_records.proofs.put.Statement.{statement}
+use Rattle.network_records.proofs.put.Tie as tie
 
 abbrev Inv-loop : tie.InvT-loop
 Inv-loop net₀ r bytes a j₀ net j = (j ≤ 16) × (a ≡ 16 * r) × Filled net₀ (16 * r) (at bytes) j net

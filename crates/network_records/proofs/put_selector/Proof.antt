@@ -1,14 +1,14 @@
--- `records::put_selector` meets its contract.
+-- `network_records::put_selector` meets its contract.
 -- Assumes nothing.
 use lib.ListN.{set, length-set}
 use Rattle.tables.proofs.PartLaws.{laid-as}
 use lib.Dec.{eqb}
 use lib.ListN.{replicate}
 use Rattle.rules.specs.Bytes.{pick}
-use Rattle.records.proofs.LiteralLaws.{literal-padded, padded-one}
+use Rattle.network_records.proofs.LiteralLaws.{literal-padded, padded-one}
 use borrow.Author.Needs.{needs}
-use Rattle.records.proofs.put_selector.Statement.{statement}
-use Rattle.records.proofs.put_selector.Tie as tie
+use Rattle.network_records.proofs.put_selector.Statement.{statement}
+use Rattle.network_records.proofs.put_selector.Tie as tie
 
 array-write-grades : tie.Need-array-write-grades
 array-write-grades c = search needs

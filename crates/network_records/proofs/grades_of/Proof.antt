@@ -1,15 +1,15 @@
--- `records::grades_of` meets its contract.
+-- `network_records::grades_of` meets its contract.
 -- Assumes nothing.
 use mathlib.Core.Path.{_≡_, refl, subst, _∙_}
 use Prim.Native.Nat.{ℕ, _-_, _≤_}
 use native.Mathlib.Omega.{arith}
 use lib.ListN.{length, length-set}
 use Rattle.rules.specs.Bytes.{at}
-use Rattle.records.specs.Grades.{Padded}
-use Rattle.records.proofs.LiteralLaws.{padded-none, padded-more}
+use Rattle.network_records.specs.Grades.{Padded}
+use Rattle.network_records.proofs.LiteralLaws.{padded-none, padded-more}
 use borrow.Author.Needs.{needs}
-use Rattle.records.proofs.grades_of.Statement.{statement}
-use Rattle.records.proofs.grades_of.Tie as tie
+use Rattle.network_records.proofs.grades_of.Statement.{statement}
+use Rattle.network_records.proofs.grades_of.Tie as tie
 
 abbrev Inv-loop : tie.InvT-loop
 Inv-loop table card grades₀ v₀ grades v = (v ≤ card) × (length grades ≡ 8) × Padded v (at table) grades

@@ -1,12 +1,12 @@
--- `records::put_grades` meets its contract.
+-- `network_records::put_grades` meets its contract.
 -- Assumes nothing.
 use mathlib.Core.List.{List}
 use Prim.Native.Nat.{ℕ}
 use Rattle.tables.proofs.PartLaws.{laid-as}
-use Rattle.records.proofs.LiteralLaws.{literal-bytes}
+use Rattle.network_records.proofs.LiteralLaws.{literal-bytes}
 use borrow.Author.Needs.{needs}
-use Rattle.records.proofs.put_grades.Statement.{statement}
-use Rattle.records.proofs.put_grades.Tie as tie
+use Rattle.network_records.proofs.put_grades.Statement.{statement}
+use Rattle.network_records.proofs.put_grades.Tie as tie
 
 array-read-t11 : tie.Need-array-read-t11
 array-read-t11 c = search needs

@@ -1,13 +1,13 @@
--- `records::put_literal` meets its contract.
+-- `network_records::put_literal` meets its contract.
 -- Assumes nothing.
 use mathlib.Core.List.{List}
 use Prim.Native.Nat.{ℕ}
 use Rattle.tables.proofs.PartLaws.{laid-as}
 use Rattle.rules.specs.Bytes.{at}
-use Rattle.records.proofs.LiteralLaws.{literal-padded}
+use Rattle.network_records.proofs.LiteralLaws.{literal-padded}
 use borrow.Author.Needs.{needs}
-use Rattle.records.proofs.put_literal.Statement.{statement}
-use Rattle.records.proofs.put_literal.Tie as tie
+use Rattle.network_records.proofs.put_literal.Statement.{statement}
+use Rattle.network_records.proofs.put_literal.Tie as tie
 
 grades-of-requires : tie.Need-grades-of-requires
 grades-of-requires c κs = search needs

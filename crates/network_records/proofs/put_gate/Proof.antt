@@ -1,4 +1,4 @@
--- `records::put_gate` meets its contract.
+-- `network_records::put_gate` meets its contract.
 -- Assumes nothing.
 use mathlib.Core.Path.{ap}
 use mathlib.Core.List.{_∷_}
@@ -6,8 +6,8 @@ use Prim.Native.Nat.{ℕ, _/_, _%_}
 use Rattle.tables.proofs.PartLaws.{laid-as}
 use lib.ListN.{replicate}
 use borrow.Author.Needs.{needs}
-use Rattle.records.proofs.put_gate.Statement.{statement}
-use Rattle.records.proofs.put_gate.Tie as tie
+use Rattle.network_records.proofs.put_gate.Statement.{statement}
+use Rattle.network_records.proofs.put_gate.Tie as tie
 
 cast-low-left : tie.Need-cast-low-left
 cast-low-left c = search needs

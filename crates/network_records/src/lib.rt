@@ -7,7 +7,7 @@ ghost use lib.ListN.{length};
 ghost use Rattle.rules.specs.Bytes.{at, pick, tabulate};
 ghost use Rattle.rules.specs.Network.{constant, literal, gate, recordBytes, kindOf};
 ghost use Rattle.tables.specs.Part.{part, Laid};
-ghost use Rattle.records.specs.Grades.{Padded};
+ghost use Rattle.network_records.specs.Grades.{Padded};
 
 // Sixteen bytes as record r.
 fn put(net: &mut [u8], r: usize, bytes: [u8; 16])

@@ -15,7 +15,7 @@ use Rattle.rules.specs.Network.{literal, recordBytes}
 use Rattle.laws.proofs.TestLaws.{by-order, by-test}
 use Rattle.laws.proofs.TableLaws.{at-tabulate, tabulate-self, length-tabulateFrom}
 use Rattle.laws.proofs.ByteLaws.{grade-here, grade-past}
-use Rattle.records.specs.Grades.{Padded}
+use Rattle.network_records.specs.Grades.{Padded}
 
 length-eight : (gs : List ℕ) → length (take 8 (gs ++ replicate 8 0)) ≡ 8
 length-eight gs = length-take 8 (gs ++ replicate 8 0) ∙ omega (arith, length-append gs (replicate 8 0))
