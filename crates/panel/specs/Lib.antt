@@ -1,0 +1,2 @@
+-- What the contracts of `panel` cite.
+pub mod Evaluates
