@@ -1,14 +1,16 @@
 -- Laws of parts of a buffer: for loops that fill one, and for what stands there afterwards.
-use Prim.Native.Nat.{ℕ, _+_, _≤_, _<_}
-use mathlib.Core.Path.{_≡_, refl, sym, _∙_, subst}
-use mathlib.Core.List.{List}
+use Prim.Native.Nat.{ℕ, _+_, _-_, _≤_, _<_}
+use mathlib.Core.Path.{_≡_, refl, sym, _∙_, ap, subst}
+use mathlib.Core.List.{List, _++_}
 use mathlib.Core.Logic.{⊎-elim}
+use native.Mathlib.Nat.{zero-add}
 use native.Mathlib.Omega.{arith}
 use borrow.Author.Count.{below-more}
-use lib.ListN.{length, set, drop, length-set, length-take, length-drop}
-use lib.Seq.{getD-set-same, getD-set-other, getD-take, getD-drop, ext-getD}
+use lib.ListN.{length, set, drop, length-set, length-take, length-drop, length-append, List·getD-append}
+use lib.Seq.{getD-set-same, getD-set-other, getD-take, getD-drop, getD-append-add, ext-getD}
 use Rattle.rules.specs.Bytes.{at, tabulate}
 use Rattle.laws.proofs.TableLaws.{at-tabulate}
+use Rattle.laws.proofs.TestLaws.{by-order}
 use Rattle.tables.specs.Part.{part, Laid, Apart}
 
 pub part-at : (w : List ℕ) (a n k : ℕ) → k < n → at (part w a n) k ≡ at w (a + k)
@@ -86,6 +88,19 @@ pub laid-part : {w : List ℕ} {a : ℕ} {t : List ℕ} {n : ℕ} {w′ : List �
 laid-part {w} {a} {t} {n} {w′} l h e =
     let m : length (part w′ a n) ≡ n = part-length w′ a n (let q = l .len in omega arith) in
     ext-getD 0 (part w′ a n) t (m ∙ sym e) (λ k lt. let q : k < n = omega arith in part-at w′ a n k q ∙ l .here k q)
+
+-- a table laid at the front is the first part of what stands there
+pub laid-front : {w t : List ℕ} {n : ℕ} {w′ : List ℕ} → Laid w 0 t n w′ → n ≤ length w → length t ≡ n → w′ ≡ t ++ drop n w
+laid-front {w} {t} {n} {w′} l h e =
+    let all : length (t ++ drop n w) ≡ length w = length-append t (drop n w) ∙ omega (arith, length-drop n w) in
+    ext-getD 0 w′ (t ++ drop n w) (l .len ∙ sym all)
+    (λ k lt.
+    by-order n k
+    (λ le.
+    let q : length t + (k - n) ≡ k = omega arith in
+    let r : n + (k - n) ≡ k = omega arith in
+    l .after k (omega arith) ∙ sym (ap (at w) r) ∙ sym (getD-drop n w (k - n) 0) ∙ sym (getD-append-add t (drop n w) (k - n) 0) ∙ ap (at (t ++ drop n w)) q)
+    (λ lk. sym (ap (at w′) (zero-add k)) ∙ l .here k lk ∙ sym (List·getD-append t (drop n w) 0 k (omega arith))))
 
 -- a table that lies apart from it stays
 pub laid-apart : {w : List ℕ} {from m to n : ℕ} {t w′ : List ℕ} → Apart w from m to n → Laid w to t n w′ → part w′ from m ≡ part w from m

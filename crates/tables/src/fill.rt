@@ -1,8 +1,10 @@
 // Functions that fill one part of a buffer from others.
 use crate::extremes;
 use rules::Gate;
-ghost use Prim.Native.Nat.{ℕ, _-_, _≤_, _<_};
+ghost use Prim.Native.Nat.{ℕ, _+_, _-_, _≤_, _<_};
 ghost use mathlib.Core.Path.{_≡_};
+ghost use mathlib.Core.List.{_++_};
+ghost use lib.ListN.{length, drop};
 ghost use Rattle.rules.specs.Bytes.{at, tabulate};
 ghost use Rattle.rules.specs.Join.{above};
 ghost use Rattle.rules.specs.Network.{combine};
@@ -15,6 +17,26 @@ pub fn copy(w: &mut [u8], from: usize, to: usize, n: usize)
 {
     for c in 0..n {
         w[to + c] = w[from + c];
+    }
+}
+
+// A part from the front of another buffer.
+pub fn load(w: &mut [u8], from: &[u8], to: usize, n: usize)
+    requires { ⌜ (n ≤ length (now from)) × (to + n ≤ length (now w)) ⌝ }
+    ensures { λ _. ⌜ Laid (now (w .entry)) to (part (now (from .entry)) 0 n) n (now (w .exit)) ⌝ }
+{
+    for c in 0..n {
+        w[to + c] = from[c];
+    }
+}
+
+// The front of another buffer from a part.
+pub fn unload(w: &[u8], from: usize, to: &mut [u8], n: usize)
+    requires { ⌜ (from + n ≤ length (now w)) × (n ≤ length (now to)) ⌝ }
+    ensures { λ _. ⌜ now (to .exit) ≡ part (now (w .entry)) from n ++ drop n (now (to .entry)) ⌝ }
+{
+    for c in 0..n {
+        to[c] = w[from + c];
     }
 }
 

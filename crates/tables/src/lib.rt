@@ -1,5 +1,6 @@
 // Tables of one byte for each cell, as parts of one buffer.
 pub mod extremes;
 pub mod fill;
+pub mod limits;
 pub mod moves;
 pub mod tests;

@@ -1,0 +1,70 @@
+-- `tables::fill::load` meets its contract.
+-- Assumes nothing.
+use mathlib.Core.Path.{_≡_, refl, sym, ap, subst, _∙_}
+use mathlib.Core.List.{List, [], _∷_, _++_}
+use mathlib.Core.Logic.{⊎-elim}
+use Prim.Native.Nat.{ℕ, _+_, _-_, _*_, _/_, _%_, _≤_, _<_}
+use native.Mathlib.Omega.{arith}
+use native.Mathlib.Nat.{zero-add}
+use lib.ListN.{length, getD, take, drop, set, length-set, length-take, length-drop}
+use borrow.Author.Needs.{needs}
+use Rattle.rules.specs.Bytes.{at}
+use Rattle.tables.specs.Part.{part}
+use Rattle.tables.proofs.PartLaws.{Filled, filled-none, filled-more, filled-laid, part-at}
+use Rattle.tables.proofs.fill.load.Statement.{statement}
+use Rattle.tables.proofs.fill.load.Tie as tie
+use Rattle.tables.proofs.fill.load.Reads as reads
+use Rattle.tables.proofs.fill.load.Lts as lts
+
+abbrev Inv-loop : tie.InvT-loop
+Inv-loop w₀ from to n c₀ w c = (c ≤ n) × Filled w₀ to (at from) c w
+
+abbrev μ-loop : tie.MeasureT-loop
+μ-loop w₀ from to n c₀ w c = n - c
+
+loop-holds : tie.Need-loop-holds Inv-loop μ-loop
+loop-holds c = (search needs, filled-none _ _ _)
+
+shared-slice-read-w : tie.Need-shared-slice-read-w Inv-loop μ-loop
+shared-slice-read-w c = search needs
+
+add-w : tie.Need-add-w Inv-loop μ-loop
+add-w c = search needs
+
+slice-write-w : tie.Need-slice-write-w Inv-loop μ-loop
+slice-write-w c = search needs
+
+add-c : tie.Need-add-c Inv-loop μ-loop
+add-c c = search needs
+
+loop-less : tie.Need-loop-less Inv-loop μ-loop
+loop-less c = search needs
+
+loop-again : tie.Need-loop-again Inv-loop μ-loop
+loop-again c =
+    let p = c .before .before .before .pre in
+    (search needs, filled-more _ (c .before .before .loop .inv .1) (omega arith) refl)
+
+same-length : tie.Need-same-length Inv-loop μ-loop
+same-length c = search needs
+
+returns : tie.Need-returns Inv-loop μ-loop
+returns c =
+    let a = c .before .before .args in
+    filled-laid _ (a .n) (omega arith) (c .before .loop .inv .1) (λ k h. sym (part-at (a .from .now) 0 (a .n) k h ∙ ap (at (a .from .now)) (zero-add k)))
+
+pub load-spec : {M : Type 1} → statement M
+load-spec =
+    tie.close
+    (tie.spec
+    Inv-loop
+    μ-loop
+    loop-holds
+    shared-slice-read-w
+    add-w
+    slice-write-w
+    add-c
+    loop-less
+    loop-again
+    same-length
+    returns)
