@@ -1,0 +1,64 @@
+-- `join::parts::exchange` meets its contract.
+-- Assumes nothing.
+use mathlib.Core.Path.{_≡_, refl, sym, ap, subst, _∙_}
+use mathlib.Core.List.{List, [], _∷_, _++_}
+use mathlib.Core.Logic.{⊎-elim}
+use Prim.Native.Nat.{ℕ, _+_, _-_, _*_, _/_, _%_, _≤_, _<_}
+use native.Mathlib.Omega.{arith}
+use lib.ListN.{length, getD, take, drop, set, length-set, length-take, length-drop}
+use borrow.Author.Needs.{needs}
+use Rattle.join.proofs.TurnLaws.{side-in, source, exchanging-on, exchanged}
+use Rattle.join.proofs.parts.exchange.Statement.{statement}
+use Rattle.join.proofs.parts.exchange.Tie as tie
+use Rattle.join.proofs.parts.exchange.Reads as reads
+use Rattle.join.proofs.parts.exchange.Lts as lts
+use Rattle.join.proofs.parts.exchange_block.Reads as exchange-block-reads
+use Rattle.join.proofs.parts.side.Reads as side-reads
+
+add-next : tie.Need-add-next
+add-next c = search needs
+
+side-requires : tie.Need-side-requires
+side-requires c κs = search needs
+
+exchange-block-requires : tie.Need-exchange-block-requires
+exchange-block-requires c κs =
+    let a = c .before .before .before .args in
+    let i = side-in (a .gate) (a .from) (a .from + a .n) (c .side .ensures) (omega arith) (omega arith) (omega arith) (omega arith) in
+    source (c .before .before .before .pre) (c .side .result) (a .to) (i .0) (i .1) (omega arith) (omega arith)
+
+side-requires-2 : tie.Need-side-requires-2
+side-requires-2 c κs = search needs
+
+add-exchange-block : tie.Need-add-exchange-block
+add-exchange-block c = search needs
+
+exchange-block-requires-2 : tie.Need-exchange-block-requires-2
+exchange-block-requires-2 c κs =
+    let b = c .before .before .before .before .before .before .before .before in
+    let a = b .args in
+    let i = side-in (a .gate) (a .from) (a .from + a .n) (c .side2 .ensures) (omega arith) (omega arith) (omega arith) (omega arith) in
+    source (exchanging-on (b .pre) (c .before .before .before .before .exchange-block .ensures)) (c .side2 .result) (a .to + a .n) (i .0) (i .1) (omega arith) (omega arith)
+
+same-length : tie.Need-same-length
+same-length c = search needs
+
+returns : tie.Need-returns
+returns c =
+    let b = c .before .before .before .before .before .before .before .before .before .before .before in
+    exchanged (b .pre) (b .args .gate) (c .before .before .before .before .before .before .before .before .side .result) (c .before .before .before .side2 .result)
+    (c .before .before .before .before .before .before .before .before .side .ensures) (c .before .before .before .side2 .ensures)
+    (c .before .before .before .before .before .before .before .exchange-block .ensures) (c .before .before .exchange-block2 .ensures)
+
+pub exchange-spec : {M : Type 1} → statement M
+exchange-spec =
+    tie.close
+    (tie.spec
+    add-next
+    side-requires
+    exchange-block-requires
+    side-requires-2
+    add-exchange-block
+    exchange-block-requires-2
+    same-length
+    returns)

@@ -1,0 +1,35 @@
+-- `join::parts::greatest_above` meets its contract.
+-- Assumes nothing.
+use mathlib.Core.Path.{_≡_, refl, sym, ap, subst, _∙_}
+use mathlib.Core.List.{List, [], _∷_, _++_}
+use mathlib.Core.Logic.{⊎-elim}
+use Prim.Native.Nat.{ℕ, _+_, _-_, _*_, _/_, _%_, _≤_, _<_}
+use native.Mathlib.Omega.{arith}
+use lib.ListN.{length, getD, take, drop, set, length-set, length-take, length-drop}
+use borrow.Author.Needs.{needs}
+use mathlib.Core.Bool.{true, false}
+use Rattle.join.proofs.TurnLaws.{over-laid}
+use Rattle.join.proofs.parts.greatest_above.Statement.{statement}
+use Rattle.join.proofs.parts.greatest_above.Tie as tie
+use Rattle.join.proofs.parts.greatest_above.Reads as reads
+use Rattle.join.proofs.parts.greatest_above.Lts as lts
+use Rattle.tables.proofs.extremes.over_set.Reads as over-set-reads
+use Rattle.tables.proofs.fill.keep_above.Reads as keep-above-reads
+
+keep-above-requires : tie.Need-keep-above-requires
+keep-above-requires c κs = search needs
+
+over-set-requires : tie.Need-over-set-requires
+over-set-requires c κs = search needs
+
+same-length : tie.Need-same-length
+same-length c = search needs
+
+returns : tie.Need-returns
+returns c =
+    let b = c .before .before .before .before .before .before .before .before .before in
+    over-laid true (b .args .ks) (b .args .set) (b .pre .1) (c .before .before .before .before .before .before .keep-above .ensures) (c .before .before .over-set .ensures)
+
+pub greatest-above-spec : {M : Type 1} → statement M
+greatest-above-spec =
+    tie.close (tie.spec keep-above-requires over-set-requires same-length returns)

@@ -1,0 +1,2 @@
+-- What the contracts of the joins cite.
+pub mod Parts

@@ -1,0 +1,2 @@
+// The two join calls.
+pub mod parts;

@@ -1,0 +1,96 @@
+// Joins on parts of one work buffer. Every part has n bytes, one for each cell of the places ks.
+// A join of either gate is made as a max join, on limits that `exchange` turns before and after.
+ghost use Prim.Native.Nat.{ℕ, _+_, _*_, _≤_};
+ghost use mathlib.Core.Path.{_≡_};
+ghost use lib.ListN.{length};
+ghost use Rattle.rules.specs.Bytes.{at, tabulate, all};
+ghost use Rattle.rules.specs.Cell.{cells, greatestOver, leastOver};
+ghost use Rattle.rules.specs.Join.{above};
+ghost use Rattle.tables.specs.Part.{part, Laid, Two, Shaped};
+ghost use Rattle.join.specs.Parts.{side, turned, Below, Exchanging, Exchanged, Work, Existing, First, Second};
+use rules::Gate;
+use tables::extremes;
+use tables::fill;
+use tables::tests;
+
+// Which of two offsets an exchange reads: the first for max, the second for min.
+fn side(gate: Gate, a: usize, b: usize) -> usize
+    ensures { λ r. ⌜ r ≡ side gate a b ⌝ }
+{
+    match gate {
+        Gate::Max => a,
+        Gate::Min => b,
+    }
+}
+
+// One table as the max join wants it.
+pub fn exchange_block(w: &mut [u8], gate: Gate, m: u8, from: usize, to: usize, n: usize)
+    requires { ⌜ (1 ≤ m) × Two (now w) from to n × Below (now w) from n m ⌝ }
+    ensures { λ _. ⌜ Laid (now (w .entry)) to (turned gate n m (part (now (w .entry)) from n)) n (now (w .exit)) ⌝ }
+{
+    match gate {
+        Gate::Max => fill::copy(w, from, to, n),
+        Gate::Min => fill::complement(w, m - 1, from, to, n),
+    }
+}
+
+// Limits as the max join wants them, and back: the lower ones at `from`, then the upper ones, to the
+// two parts at `to`.
+pub fn exchange(w: &mut [u8], gate: Gate, m: u8, from: usize, to: usize, n: usize)
+    requires { ⌜ Exchanging (now w) m from to n ⌝ }
+    ensures { λ _. ⌜ Exchanged gate (now (w .entry)) m from to n (now (w .exit)) ⌝ }
+{
+    let next = from + n;
+    exchange_block(w, gate, m, side(gate, from, next), to, n);
+    exchange_block(w, gate, m, side(gate, next, from), to + n, n);
+}
+
+// The least over a set: of upper limits, those of the block that is blind to it.
+pub fn least(w: &mut [u8], ks: [u8; 8], set: u8, from: usize, to: usize, n: usize)
+    requires { ⌜ Shaped ks × (n ≡ cells ks) × Two (now w) from to n ⌝ }
+    ensures { λ _. ⌜ Laid (now (w .entry)) to (leastOver ks set (part (now (w .entry)) from n)) n (now (w .exit)) ⌝ }
+{
+    fill::copy(w, from, to, n);
+    extremes::over_set(w, false, ks, set, to);
+}
+
+// The greatest, over a set, of the low grades that are above the high table's.
+pub fn greatest_above(w: &mut [u8], ks: [u8; 8], set: u8, low: usize, high: usize, to: usize, n: usize)
+    requires { ⌜ Shaped ks × (n ≡ cells ks) × Two (now w) low to n × Two (now w) high to n ⌝ }
+    ensures { λ _. ⌜ Laid (now (w .entry)) to (greatestOver ks set (tabulate n (λ c. above (at (part (now (w .entry)) low n) c) (at (part (now (w .entry)) high n) c)))) n (now (w .exit)) ⌝ }
+{
+    fill::keep_above(w, low, high, to, n);
+    extremes::over_set(w, true, ks, set, to);
+}
+
+// Whether the join exists under the limits in parts 0 and 1. Parts 2 and 3 become these limits,
+// exchanged, part 4 the first block's upper limits, part 5 the second's.
+pub fn exists(w: &mut [u8], gate: Gate, ks: [u8; 8], m: u8, s: u8, t: u8, n: usize) -> bool
+    requires { ⌜ Work (now w) ks m n × Below (now w) 0 (2 * n) m ⌝ }
+    ensures { λ r. ⌜ Existing gate ks m s t n (now (w .entry)) r (now (w .exit)) ⌝ }
+{
+    exchange(w, gate, m, 0, 2 * n, n);
+    least(w, ks, t, 3 * n, 4 * n, n);
+    least(w, ks, s, 3 * n, 5 * n, n);
+    tests::within_either(w, 2 * n, 4 * n, 5 * n, n)
+}
+
+// After `exists`: parts 6 and 7 become the first block's limits, part 3 is lost.
+pub fn first_limits(w: &mut [u8], gate: Gate, ks: [u8; 8], m: u8, t: u8, n: usize)
+    requires { ⌜ Work (now w) ks m n × Below (now w) (2 * n) n m × Below (now w) (4 * n) n m ⌝ }
+    ensures { λ _. ⌜ First gate ks m t n (now (w .entry)) (now (w .exit)) ⌝ }
+{
+    greatest_above(w, ks, t, 2 * n, 5 * n, 3 * n, n);
+    exchange(w, gate, m, 3 * n, 6 * n, n);
+}
+
+// After `exists`, with the first block's grades in part 1: parts 6 and 7 become the second block's
+// limits, parts 3 and 4 are lost.
+pub fn second_limits(w: &mut [u8], gate: Gate, ks: [u8; 8], m: u8, s: u8, n: usize)
+    requires { ⌜ Work (now w) ks m n × Below (now w) n n m × Below (now w) (2 * n) n m × Below (now w) (5 * n) n m ⌝ }
+    ensures { λ _. ⌜ Second gate ks m s n (now (w .entry)) (now (w .exit)) ⌝ }
+{
+    exchange_block(w, gate, m, n, 3 * n, n);
+    greatest_above(w, ks, s, 2 * n, 3 * n, 4 * n, n);
+    exchange(w, gate, m, 4 * n, 6 * n, n);
+}
