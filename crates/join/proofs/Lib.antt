@@ -2,3 +2,10 @@
 pub mod HoldLaws
 pub mod TurnLaws
 pub mod StepLaws
+pub mod BlindLaws
+pub mod SetsLaws
+pub mod JudgeLaws
+pub mod RowLaws
+pub mod PromiseLaws
+pub mod OpenLaws
+pub mod CallLaws

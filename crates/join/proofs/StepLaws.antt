@@ -36,7 +36,7 @@ all-same zero p q h = refl
 all-same (suc n) p q h = ap₂ (λ (a b : Bool). a && b) (all-same n p q (λ c lt. h c (omega arith))) (h n (omega arith))
 
 -- an extreme of whatever table stood there
-over-holds : {op : ℕ → ℕ → ℕ} {R : ℕ → ℕ → Type 0} (B : Bound op R) (ks : List ℕ) (set : ℕ) {w : List ℕ} {from to n : ℕ} {u w′ : List ℕ} → n ≡ cells ks
+pub over-holds : {op : ℕ → ℕ → ℕ} {R : ℕ → ℕ → Type 0} (B : Bound op R) (ks : List ℕ) (set : ℕ) {w : List ℕ} {from to n : ℕ} {u w′ : List ℕ} → n ≡ cells ks
     → Laid w to (over op ks set (part w from n)) n w′ → Holds w from u n → Holds w′ to (over op ks set u) n
 over-holds B ks set {w} {from} {to} {n} {u} e l h =
     record { here = λ c lt. l .here c lt ∙ ap (λ (f : List ℕ). at f c) (over-same B ks set (part w from n) u (λ d hd. part-at w from n d (omega arith) ∙ h .here d (omega arith))) }
@@ -72,17 +72,17 @@ grades-below {a = a} p le b = record { grade = λ c lt. rw (p .before (a + c) (o
 grades-behind : {w w′ : List ℕ} {lo hi a n m : ℕ} → Within w lo hi w′ → hi ≤ a → Below w a n m → Below w′ a n m
 grades-behind {a = a} p le b = record { grade = λ c lt. rw (p .after (a + c) (omega arith)) (b .grade c lt) }
 
-grades-both : {w : List ℕ} {m : ℕ} (a b n : ℕ) → a + n ≡ b → Below w a n m → Below w b n m → Below w a (2 * n) m
+pub grades-both : {w : List ℕ} {m : ℕ} (a b n : ℕ) → a + n ≡ b → Below w a n m → Below w b n m → Below w a (2 * n) m
 grades-both {w} {m} a b n e p q =
     record { grade = λ c lt. by-order n c (λ le. let i : b + (c - n) ≡ a + c = omega arith in subst (λ (j : ℕ). at w j ≤ m - 1) i (q .grade (c - n) (omega arith))) (λ less. p .grade c less) }
 
-module _ (gate : Gate) {w ks : List ℕ} {m n : ℕ} (work : Work w ks m n) where
+module _ (gate : Gate) {w ks : List ℕ} {m n : ℕ} (work : Work w ks n) (some : 1 ≤ m) where
   room : 8 * n ≤ length w
   room = work .room
 
   -- whether the join exists
   pub exists-exchange : Below w 0 (2 * n) m → Exchanging w m 0 (2 * n) n
-  exists-exchange b = let r = room in record { some = work .some; parts = before 0 (2 * n) (2 * n) (2 * n) (omega arith) (omega arith); grades = b }
+  exists-exchange b = let r = room in record { some = some; parts = before 0 (2 * n) (2 * n) (2 * n) (omega arith) (omega arith); grades = b }
 
   module _ {v₁ : List ℕ} (x : Exchanged gate w m 0 (2 * n) n v₁) where
     pub exists-first : Apart v₁ (3 * n) n (4 * n) n
@@ -141,7 +141,7 @@ module _ (gate : Gate) {w ks : List ℕ} {m n : ℕ} (work : Work w ks m n) wher
         let r = room in
         let k = a .len in
         record {
-          some = work .some;
+          some = some;
           parts = before (3 * n) (2 * n) (6 * n) (2 * n) (omega arith) (omega arith);
           grades = grades-both (3 * n) (4 * n) n (omega arith) (above-below ks t (5 * n) (work .count) a p) (grades-behind (laid-within a) (omega arith) q);
         }
@@ -165,7 +165,7 @@ module _ (gate : Gate) {w ks : List ℕ} {m n : ℕ} (work : Work w ks m n) wher
 
   -- the second block's
   pub second-block : Below w n n m → (1 ≤ m) × Apart w n n (3 * n) n × Below w n n m
-  second-block b = let r = room in (work .some, before n n (3 * n) n (omega arith) (omega arith), b)
+  second-block b = let r = room in (some, before n n (3 * n) n (omega arith) (omega arith), b)
 
   module _ {v₁ : List ℕ} (x : Laid w (3 * n) (turned gate n m (part w n n)) n v₁) where
     pub second-low : Apart v₁ (2 * n) n (4 * n) n
@@ -181,7 +181,7 @@ module _ (gate : Gate) {w ks : List ℕ} {m n : ℕ} (work : Work w ks m n) wher
           let i = x .len in
           let k = a .len in
           record {
-            some = work .some;
+            some = some;
             parts = before (4 * n) (2 * n) (6 * n) (2 * n) (omega arith) (omega arith);
             grades =
                 grades-both (4 * n) (5 * n) n (omega arith) (above-below ks s (3 * n) (work .count) a (grades-below (laid-within x) (omega arith) p))

@@ -1,15 +1,16 @@
 -- What stands in the parts of a join's work buffer, each of n bytes.
 use Prim.Native.Nat.{ℕ, _+_, _-_, _*_, _≤_, _<_}
 use mathlib.Core.Path.{_≡_}
-use mathlib.Core.Bool.{Bool}
+use mathlib.Core.Bool.{Bool, not, _||_}
 use mathlib.Core.List.{List}
+use lib.Dec.{eqb}
 use lib.ListN.{length}
 use Rattle.rules.specs.declared.Gate.{Gate}
 use Rattle.rules.specs.declared.Gate.the-variants.{Min, Max}
-use Rattle.rules.specs.Bytes.{at, tabulate}
-use Rattle.rules.specs.Cell.{cells}
+use Rattle.rules.specs.Bytes.{at, tabulate, all}
+use Rattle.rules.specs.Cell.{cells, agreeOutside}
 use Rattle.rules.specs.Limits.{Limits}
-use Rattle.rules.specs.Join.{uA, uB, exchangeFor, joinExists, firstLimits, secondLimits}
+use Rattle.rules.specs.Join.{uA, uB, exchangeFor, joinExists, firstLimits, secondLimits, blockSound}
 use Rattle.tables.specs.Part.{Apart, Shaped}
 
 -- the first choice for max, the second for min
@@ -53,11 +54,10 @@ pub record Exchanged (gate : Gate) (w : List ℕ) (m from to n : ℕ) (w′ : Li
   pub kept : Within w to (to + 2 * n) w′
 
 -- a work buffer for joins over the places ks
-pub record Work (w : List ℕ) (ks : List ℕ) (m n : ℕ) : Type 0 where
+pub record Work (w : List ℕ) (ks : List ℕ) (n : ℕ) : Type 0 where
   pub shaped : Shaped ks
   pub count : n ≡ cells ks
   pub room : 8 * n ≤ length w
-  pub some : 1 ≤ m
 
 -- the join by a gate under the limits l: what its two blocks are made from
 module _ (gate : Gate) (ks : List ℕ) (m s t : ℕ) (l : Limits) (n : ℕ) where
@@ -85,3 +85,17 @@ pub record First (gate : Gate) (ks : List ℕ) (m t n : ℕ) (w w′ : List ℕ)
 pub record Second (gate : Gate) (ks : List ℕ) (m s n : ℕ) (w w′ : List ℕ) : Type 0 where
   pub limits : (t : ℕ) (l : Limits) (g : List ℕ) → Begun gate ks m s t l n w → Holds w n g n → Placed w′ (6 * n) (secondLimits gate ks m s t l g) n
   pub kept : Within w (3 * n) (8 * n) w′
+
+-- cells that agree outside t have the same grade
+abbrev pub blindTest : List ℕ → ℕ → List ℕ → Bool
+blindTest ks t g = all (cells ks) (λ c. all (cells ks) (λ d. not (agreeOutside ks t c d) || eqb (at g c) (at g d)))
+
+-- whatever table stood there: the answer is whether it is blind to the set
+pub record Blinded (ks : List ℕ) (set from to n : ℕ) (w : List ℕ) (r : Bool) (w′ : List ℕ) : Type 0 where
+  pub answer : (g : List ℕ) → Holds w from g n → r ≡ blindTest ks set g
+  pub kept : Within w to (to + n) w′
+
+-- whatever limits stood in parts 6 and 7, and whatever block in part 1: the answer is row 9's
+pub record Judged (ks : List ℕ) (t n : ℕ) (w : List ℕ) (r : Bool) (w′ : List ℕ) : Type 0 where
+  pub answer : (l : Limits) (g : List ℕ) → Placed w (6 * n) l n → Holds w n g n → r ≡ blockSound ks t l g
+  pub kept : Within w (3 * n) (4 * n) w′

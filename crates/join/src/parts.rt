@@ -3,11 +3,11 @@
 ghost use Prim.Native.Nat.{ℕ, _+_, _*_, _≤_};
 ghost use mathlib.Core.Path.{_≡_};
 ghost use lib.ListN.{length};
-ghost use Rattle.rules.specs.Bytes.{at, tabulate, all};
+ghost use Rattle.rules.specs.Bytes.{at, tabulate};
 ghost use Rattle.rules.specs.Cell.{cells, greatestOver, leastOver};
 ghost use Rattle.rules.specs.Join.{above};
 ghost use Rattle.tables.specs.Part.{part, Laid, Two, Shaped};
-ghost use Rattle.join.specs.Parts.{side, turned, Below, Exchanging, Exchanged, Work, Existing, First, Second};
+ghost use Rattle.join.specs.Parts.{side, turned, Below, Exchanging, Exchanged, Work, Existing, First, Second, Blinded, Judged};
 use rules::Gate;
 use tables::extremes;
 use tables::fill;
@@ -66,7 +66,7 @@ pub fn greatest_above(w: &mut [u8], ks: [u8; 8], set: u8, low: usize, high: usiz
 // Whether the join exists under the limits in parts 0 and 1. Parts 2 and 3 become these limits,
 // exchanged, part 4 the first block's upper limits, part 5 the second's.
 pub fn exists(w: &mut [u8], gate: Gate, ks: [u8; 8], m: u8, s: u8, t: u8, n: usize) -> bool
-    requires { ⌜ Work (now w) ks m n × Below (now w) 0 (2 * n) m ⌝ }
+    requires { ⌜ Work (now w) ks n × (1 ≤ m) × Below (now w) 0 (2 * n) m ⌝ }
     ensures { λ r. ⌜ Existing gate ks m s t n (now (w .entry)) r (now (w .exit)) ⌝ }
 {
     exchange(w, gate, m, 0, 2 * n, n);
@@ -77,7 +77,7 @@ pub fn exists(w: &mut [u8], gate: Gate, ks: [u8; 8], m: u8, s: u8, t: u8, n: usi
 
 // After `exists`: parts 6 and 7 become the first block's limits, part 3 is lost.
 pub fn first_limits(w: &mut [u8], gate: Gate, ks: [u8; 8], m: u8, t: u8, n: usize)
-    requires { ⌜ Work (now w) ks m n × Below (now w) (2 * n) n m × Below (now w) (4 * n) n m ⌝ }
+    requires { ⌜ Work (now w) ks n × (1 ≤ m) × Below (now w) (2 * n) n m × Below (now w) (4 * n) n m ⌝ }
     ensures { λ _. ⌜ First gate ks m t n (now (w .entry)) (now (w .exit)) ⌝ }
 {
     greatest_above(w, ks, t, 2 * n, 5 * n, 3 * n, n);
@@ -87,10 +87,36 @@ pub fn first_limits(w: &mut [u8], gate: Gate, ks: [u8; 8], m: u8, t: u8, n: usiz
 // After `exists`, with the first block's grades in part 1: parts 6 and 7 become the second block's
 // limits, parts 3 and 4 are lost.
 pub fn second_limits(w: &mut [u8], gate: Gate, ks: [u8; 8], m: u8, s: u8, n: usize)
-    requires { ⌜ Work (now w) ks m n × Below (now w) n n m × Below (now w) (2 * n) n m × Below (now w) (5 * n) n m ⌝ }
+    requires { ⌜ Work (now w) ks n × (1 ≤ m) × Below (now w) n n m × Below (now w) (2 * n) n m × Below (now w) (5 * n) n m ⌝ }
     ensures { λ _. ⌜ Second gate ks m s n (now (w .entry)) (now (w .exit)) ⌝ }
 {
     exchange_block(w, gate, m, n, 3 * n, n);
     greatest_above(w, ks, s, 2 * n, 3 * n, 4 * n, n);
     exchange(w, gate, m, 4 * n, 6 * n, n);
+}
+
+// Whether the table at `from` does not depend on a set: then it is its own greatest over the set,
+// which is made at `to`.
+pub fn blind(w: &mut [u8], ks: [u8; 8], set: u8, from: usize, to: usize, n: usize) -> bool
+    requires { ⌜ Shaped ks × (n ≡ cells ks) × Two (now w) from to n ⌝ }
+    ensures { λ r. ⌜ Blinded ks set from to n (now (w .entry)) r (now (w .exit)) ⌝ }
+{
+    fill::copy(w, from, to, n);
+    extremes::over_set(w, true, ks, set, to);
+    tests::fits(w, to, from, n)
+}
+
+// Whether the first block in part 1 is within its limits, in parts 6 and 7, and does not depend on t.
+// Part 3 is lost.
+pub fn block_sound(w: &mut [u8], ks: [u8; 8], t: u8, n: usize) -> bool
+    requires { ⌜ Work (now w) ks n ⌝ }
+    ensures { λ r. ⌜ Judged ks t n (now (w .entry)) r (now (w .exit)) ⌝ }
+{
+    if !tests::fits(w, 6 * n, n, n) {
+        return false;
+    }
+    if !tests::fits(w, n, 7 * n, n) {
+        return false;
+    }
+    blind(w, ks, t, n, 3 * n, n)
 }

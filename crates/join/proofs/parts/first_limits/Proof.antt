@@ -25,7 +25,7 @@ mul-greatest-above-3 : tie.Need-mul-greatest-above-3
 mul-greatest-above-3 c = search needs
 
 greatest-above-requires : tie.Need-greatest-above-requires
-greatest-above-requires c κs = let b = c .before .before in (b .pre .0 .shaped, b .pre .0 .count, first-low (b .args .gate) (b .pre .0), first-high (b .args .gate) (b .pre .0))
+greatest-above-requires c κs = let b = c .before .before in (b .pre .0 .shaped, b .pre .0 .count, first-low (b .args .gate) (b .pre .0) (b .pre .1), first-high (b .args .gate) (b .pre .0) (b .pre .1))
 
 mul-exchange : tie.Need-mul-exchange
 mul-exchange c = search needs
@@ -34,13 +34,13 @@ mul-exchange-2 : tie.Need-mul-exchange-2
 mul-exchange-2 c = search needs
 
 exchange-requires : tie.Need-exchange-requires
-exchange-requires c κs = let b = c .before .before .before .before .before .before in first-exchange (b .args .gate) (b .pre .0) (b .args .t) (c .before .before .before .greatest-above .ensures) (b .pre .1) (b .pre .2)
+exchange-requires c κs = let b = c .before .before .before .before .before .before in first-exchange (b .args .gate) (b .pre .0) (b .pre .1) (b .args .t) (c .before .before .before .greatest-above .ensures) (b .pre .2) (b .pre .3)
 
 same-length : tie.Need-same-length
 same-length c = search needs
 
 returns : tie.Need-returns
-returns c = let b = c .before .before .before .before .before .before .before .before .before in first (b .args .gate) (b .pre .0) (b .args .t) (c .before .before .before .before .before .before .greatest-above .ensures) (c .before .before .exchange .ensures)
+returns c = let b = c .before .before .before .before .before .before .before .before .before in first (b .args .gate) (b .pre .0) (b .pre .1) (b .args .t) (c .before .before .before .before .before .before .greatest-above .ensures) (c .before .before .exchange .ensures)
 
 pub first-limits-spec : {M : Type 1} → statement M
 first-limits-spec =

@@ -1,0 +1,39 @@
+-- `join::parts::blind` meets its contract.
+-- Assumes nothing.
+use mathlib.Core.Path.{_≡_, refl, sym, ap, subst, _∙_}
+use mathlib.Core.List.{List, [], _∷_, _++_}
+use mathlib.Core.Logic.{⊎-elim}
+use Prim.Native.Nat.{ℕ, _+_, _-_, _*_, _/_, _%_, _≤_, _<_}
+use native.Mathlib.Omega.{arith}
+use lib.ListN.{length, getD, take, drop, set, length-set, length-take, length-drop}
+use borrow.Author.Needs.{needs}
+use mathlib.Core.Bool.{true}
+use Rattle.join.proofs.TurnLaws.{over-laid}
+use Rattle.join.proofs.JudgeLaws.{blinded}
+use Rattle.join.proofs.parts.blind.Statement.{statement}
+use Rattle.join.proofs.parts.blind.Tie as tie
+use Rattle.join.proofs.parts.blind.Reads as reads
+use Rattle.join.proofs.parts.blind.Lts as lts
+use Rattle.tables.proofs.extremes.over_set.Reads as over-set-reads
+use Rattle.tables.proofs.fill.copy.Reads as copy-reads
+use Rattle.tables.proofs.tests.fits.Reads as fits-reads
+
+copy-requires : tie.Need-copy-requires
+copy-requires c κs = search needs
+
+over-set-requires : tie.Need-over-set-requires
+over-set-requires c κs = search needs
+
+fits-requires : tie.Need-fits-requires
+fits-requires c κs = search needs
+
+same-length : tie.Need-same-length
+same-length c = search needs
+
+returns : tie.Need-returns
+returns c =
+    let b = c .before .before .before .before .before .before .before .before .before .before .before in
+    blinded (b .args .ks) (b .args .set) (c .fits2 .result) (b .pre .1) (b .pre .2) (over-laid true (b .args .ks) (b .args .set) (b .pre .1) (c .before .before .before .before .before .before .before .before .copy .ensures) (c .before .before .before .before .over-set .ensures)) (c .fits2 .ensures)
+
+pub blind-spec : {M : Type 1} → statement M
+blind-spec = tie.close (tie.spec copy-requires over-set-requires fits-requires same-length returns)
