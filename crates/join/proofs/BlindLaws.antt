@@ -1,10 +1,9 @@
 -- Row 9: a block is blind to a set exactly when it is its own greatest over the set.
 use Prim.Native.Nat.{ℕ, _≤_, _<_}
-use mathlib.Core.Path.{_≡_, refl, sym, _∙_, ap}
+use mathlib.Core.Path.{_≡_, refl}
 use mathlib.Core.Bool.{Bool, true, false, not, _&&_, _||_}
 use mathlib.Core.List.{List}
 use native.Mathlib.Nat.{le-refl, le-trans, le-antisymm}
-use native.Mathlib.Omega.{arith}
 use lib.Dec.{T, leb, leb→le, le→leb, eqb, eqb→eq, eqb-refl}
 use Rattle.rules.specs.Bytes.{at, all}
 use Rattle.rules.specs.Cell.{Blind, cells, agreeOutside, greatestOver}

@@ -1,12 +1,12 @@
 -- The two calls, after their rows.
-use Prim.Native.Nat.{ℕ, _+_, _-_, _*_, _≤_, _<_}
-use mathlib.Core.Path.{_≡_, refl, sym, _∙_, ap, ap₂, subst}
-use mathlib.Core.Bool.{Bool, true, false}
-use mathlib.Core.List.{List, [], _∷_, _++_}
+use Prim.Native.Nat.{ℕ, _*_, _≤_}
+use mathlib.Core.Path.{_≡_, sym, _∙_, ap, ap₂, subst}
+use mathlib.Core.Bool.{Bool, true}
+use mathlib.Core.List.{List, _∷_, _++_}
 use native.Mathlib.Nat.{le-trans}
 use native.Mathlib.Omega.{arith}
 use borrow.Author.Tests.{leb-true}
-use lib.Dec.{T, leb}
+use lib.Dec.{leb}
 use lib.ListN.{length, drop}
 use Rattle.rules.specs.declared.Gate.{Gate}
 use Rattle.rules.specs.declared.Refusal.{Refusal}
@@ -33,7 +33,7 @@ use Rattle.join.proofs.OpenLaws.{loaded, holds-below, low-grades, first
 
 -- limits from the work buffer to two others
 module _ (ks : List ℕ) {n : ℕ} (size : n ≡ cells ks) {w : List ℕ} {y : Limits} (p : Placed w (6 * n) y n) (room : 8 * n ≤ length w)
-  (lengths : (length (y .lower) ≡ cells ks) × (length (y .upper) ≡ cells ks)) where
+    (lengths : (length (y .lower) ≡ cells ks) × (length (y .upper) ≡ cells ks)) where
   pub lower-written : (to : List ℕ) → part w (6 * n) n ++ drop n to ≡ y .lower ++ drop (cells ks) to
   lower-written to = ap₂ (λ (x : List ℕ) (i : ℕ). x ++ drop i to) (holds-part (p .lows) (omega arith) (lengths .0 ∙ sym size)) size
 
@@ -48,7 +48,7 @@ pub record Call (shape : Shape) (lower upper : List ℕ) (gate : Gate) (s t b : 
   pub rows : Rows shape lower upper gate s t shortest n w r w₁
 
 module _ {shape : Shape} {lower upper : List ℕ} {gate : Gate} {s t b : ℕ} {bs ks : List ℕ} {n shortest : ℕ} {w : List ℕ} {r : JoinAnswer} {w₁ : List ℕ}
-  (call : Call shape lower upper gate s t b bs ks n shortest w r w₁) where
+    (call : Call shape lower upper gate s t b bs ks n shortest w r w₁) where
   abbrev lent : Limits
   lent = limitsOf lower upper
 

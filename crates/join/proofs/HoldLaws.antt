@@ -1,12 +1,10 @@
 -- Tables that stand in a part, and stay there while others are written.
-use Prim.Native.Nat.{ℕ, _+_, _*_, _≤_, _<_}
-use mathlib.Core.Path.{_≡_, refl, sym, _∙_, ap, subst}
+use Prim.Native.Nat.{ℕ, _+_, _≤_, _<_}
+use mathlib.Core.Path.{_≡_, sym, _∙_, subst}
 use mathlib.Core.List.{List}
-use mathlib.Core.Logic.{_⊎_, ⊎-elim}
 use native.Mathlib.Omega.{arith}
 use lib.ListN.{length}
 use lib.Seq.{ext-getD}
-use Rattle.rules.specs.Bytes.{at}
 use Rattle.tables.specs.Part.{part, Laid}
 use Rattle.tables.proofs.PartLaws.{part-at, part-length}
 use Rattle.join.specs.Parts.{Holds, Within}

@@ -1,19 +1,18 @@
 -- Row 9 on the work buffer.
-use Prim.Native.Nat.{ℕ, _+_, _*_, _≤_, _<_}
+use Prim.Native.Nat.{ℕ, _*_}
 use mathlib.Core.Path.{_≡_, refl, sym, _∙_, ap, ap₂}
-use mathlib.Core.Bool.{Bool, true, false, _&&_}
+use mathlib.Core.Bool.{Bool, true, false}
 use mathlib.Core.List.{List}
 use mathlib.Core.Logic.{⊎-elim}
 use native.Mathlib.Omega.{arith}
 use lib.Dec.{leb}
-use lib.ListN.{length}
 use Rattle.rules.specs.Bytes.{at, all}
 use Rattle.rules.specs.Cell.{cells, greatestOver}
 use Rattle.rules.specs.Limits.{Limits}
 use Rattle.laws.proofs.OverLaws.{max-bound}
 use Rattle.tables.specs.Part.{part, Laid, Apart}
 use Rattle.tables.proofs.PartLaws.{part-at}
-use Rattle.join.specs.Parts.{Holds, Placed, Within, Work, blindTest, Blinded, Judged}
+use Rattle.join.specs.Parts.{Holds, Placed, Within, Work, Blinded, Judged}
 use Rattle.join.proofs.HoldLaws.{holds-at, laid-within, within-then, stays-below, stays-behind}
 use Rattle.join.proofs.StepLaws.{before, all-same, over-holds}
 use Rattle.join.proofs.BlindLaws.{own-greatest, block-by}

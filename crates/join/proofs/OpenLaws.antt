@@ -1,19 +1,19 @@
 -- A call's rows, test by test, and the work buffer once they let it pass.
-use Prim.Native.Nat.{ℕ, _+_, _-_, _*_, _≤_, _<_}
+use Prim.Native.Nat.{ℕ, _-_, _*_, _≤_, _<_}
 use mathlib.Core.Path.{_≡_, refl, sym, _∙_, ap, subst}
 use mathlib.Core.Bool.{Bool, true, false, _&&_}
 use mathlib.Core.List.{List}
 use native.Mathlib.Nat.{le-trans, zero-add}
 use native.Mathlib.Omega.{arith}
 use borrow.Author.Tests.{lt-leb, le-leb}
-use lib.Dec.{T, leb, ltb}
+use lib.Dec.{leb, ltb}
 use lib.ListN.{length}
 use Rattle.rules.specs.declared.Gate.{Gate}
 use Rattle.rules.specs.declared.Refusal.{Refusal}
 use Rattle.rules.specs.declared.Refusal.the-variants.{ShapeRange, GradeLimits, Sets, NoJoin, ShortBuffer}
 use Rattle.rules.specs.Bytes.{at, all}
 use Rattle.rules.specs.Cell.{Positive, cells}
-use Rattle.rules.specs.Verdict.{Verdict, accepted, refused, unless, roomy}
+use Rattle.rules.specs.Verdict.{accepted, refused, unless, roomy}
 use Rattle.rules.specs.Limits.{Limits}
 use Rattle.rules.specs.Join.{exchangeFor, setsSound, joinExists, joinRows}
 use Rattle.rules.specs.Demands.{Table}
@@ -21,12 +21,10 @@ use Rattle.laws.proofs.GateLaws.{Good, exchangeFor-good}
 use Rattle.laws.proofs.JoinLaws.{uA-under, uB-under}
 use Rattle.shape.specs.declared.Shape.{Shape}
 use Rattle.shape.specs.Shapes.{cardsOf, placesOf, isSound}
-use Rattle.shape.proofs.ShapeLaws.{shape-positive}
-use Rattle.tables.specs.Part.{part, Laid, Shaped}
+use Rattle.tables.specs.Part.{part, Laid}
 use Rattle.tables.proofs.PartLaws.{part-at}
-use Rattle.join.specs.declared.JoinAnswer.{JoinAnswer}
 use Rattle.join.specs.declared.JoinAnswer.the-variants as answers
-use Rattle.join.specs.Parts.{Below, Holds, Placed, Within, Work, Begun, Opened, Existing}
+use Rattle.join.specs.Parts.{Below, Holds, Placed, Work, Begun, Opened, Existing}
 use Rattle.join.specs.Calls.{joinAnswer, limitsOf, Ready, Rows}
 use Rattle.join.proofs.HoldLaws.{holds-at, laid-within, stays-below}
 use Rattle.join.proofs.StepLaws.{grades-both}

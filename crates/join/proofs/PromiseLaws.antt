@@ -1,6 +1,6 @@
 -- The promises of the calls: demand 2 from the answer and the bytes that are written.
-use Prim.Native.Nat.{ℕ, _-_, _*_, _≤_, _<_}
-use mathlib.Core.Path.{_≡_, refl, sym, _∙_, ap, ap₂, subst}
+use Prim.Native.Nat.{ℕ, _<_}
+use mathlib.Core.Path.{_≡_, sym, _∙_, ap}
 use mathlib.Core.Bool.{Bool, true, false}
 use mathlib.Core.List.{List, _++_}
 use mathlib.Core.Logic.{_↔_}
@@ -9,17 +9,16 @@ use lib.Dec.{T}
 use lib.ListN.{length, drop, List·getD-append}
 use Rattle.rules.specs.declared.Gate.{Gate}
 use Rattle.rules.specs.declared.Gate.the-variants.{Min, Max}
-use Rattle.rules.specs.declared.Refusal.{Refusal}
 use Rattle.rules.specs.declared.Refusal.the-variants.{NoJoin, FirstBlock}
 use Rattle.rules.specs.Bytes.{at}
-use Rattle.rules.specs.Cell.{Blind, cells}
+use Rattle.rules.specs.Cell.{cells}
 use Rattle.rules.specs.Verdict.{Verdict, accepted, refused, unless}
 use Rattle.rules.specs.Limits.{Limits, limitsSound}
 use Rattle.rules.specs.Join.{exchangeFor, firstLimits, secondLimits, blockSound, joinRows}
-use Rattle.rules.specs.Demands.{Table, Grades, Inside, Pair}
+use Rattle.rules.specs.Demands.{Table, Inside, Pair}
 use Rattle.laws.proofs.TableLaws.{length-tabulateFrom}
 use Rattle.laws.proofs.AcceptLaws.{accepted-table}
-use Rattle.laws.proofs.GateLaws.{Good, first-good}
+use Rattle.laws.proofs.GateLaws.{first-good}
 use Rattle.laws.proofs.JoinExactLaws.{join-exact}
 use Rattle.shape.specs.declared.Shape.{Shape}
 use Rattle.shape.specs.Shapes.{cardsOf, placesOf, isSound}
@@ -28,7 +27,7 @@ use Rattle.join.specs.declared.JoinAnswer.{JoinAnswer}
 use Rattle.join.specs.declared.JoinAnswer.the-variants as answers
 use Rattle.join.specs.Calls.{joinAnswer, lowerAfter, upperAfter, limitsOf, Offered, firstLengths, firstVerdict, JoinFirst, secondLengths, secondVerdict, JoinSecond}
 use Rattle.join.proofs.BlindLaws.{block-blind, block-inside}
-use Rattle.join.proofs.RowLaws.{passes, limits-refused, Passed, passed, rows-passed, row-passed, eight}
+use Rattle.join.proofs.RowLaws.{passes, limits-refused, passed, rows-passed, row-passed, eight}
 
 -- the limits of a block have a grade for each cell
 exchange-lengths : (op : Gate) (ks : List ℕ) (m : ℕ) (l : Limits) → length (l .lower) ≡ cells ks → length (l .upper) ≡ cells ks
@@ -45,7 +44,7 @@ module _ (op : Gate) (ks : List ℕ) (m s t : ℕ) (l : Limits) where
 
 -- limits at the front of two buffers
 module _ (ks : List ℕ) (l : Limits) (lows : length (l .lower) ≡ cells ks) (highs : length (l .upper) ≡ cells ks) (a b : List ℕ) {x y : List ℕ}
-  (ex : x ≡ l .lower ++ drop (cells ks) a) (ey : y ≡ l .upper ++ drop (cells ks) b) (f : ℕ → ℕ) where
+    (ex : x ≡ l .lower ++ drop (cells ks) a) (ey : y ≡ l .upper ++ drop (cells ks) b) (f : ℕ → ℕ) where
   front : (c : ℕ) → c < cells ks → (at x c ≡ at (l .lower) c) × (at y c ≡ at (l .upper) c)
   front c hc = (
     ap (λ (z : List ℕ). at z c) ex ∙ List·getD-append (l .lower) (drop (cells ks) a) 0 c (omega arith),
@@ -74,8 +73,8 @@ module _ (shape : Shape) (lower upper : List ℕ) (gate : Gate) (s t : ℕ) wher
       ((λ h. x .0 (i .0 h)), (λ h. i .1 (x .1 h)))
 
   module _ (toLower toUpper : List ℕ) {r : JoinAnswer} {toLower′ toUpper′ : List ℕ} (answer : r ≡ joinAnswer (firstVerdict shape lower upper gate s t toLower toUpper))
-    (low : toLower′ ≡ lowerAfter (firstVerdict shape lower upper gate s t toLower toUpper) (cells (placesOf shape)) toLower)
-    (high : toUpper′ ≡ upperAfter (firstVerdict shape lower upper gate s t toLower toUpper) (cells (placesOf shape)) toUpper) where
+      (low : toLower′ ≡ lowerAfter (firstVerdict shape lower upper gate s t toLower toUpper) (cells (placesOf shape)) toLower)
+      (high : toUpper′ ≡ upperAfter (firstVerdict shape lower upper gate s t toLower toUpper) (cells (placesOf shape)) toUpper) where
     first-promise : JoinFirst shape lower upper gate s t toLower toUpper r toLower′ toUpper′
     first-promise =
         record {
@@ -102,8 +101,8 @@ module _ (shape : Shape) (lower upper : List ℕ) (gate : Gate) (s t : ℕ) wher
       (high ∙ ap (λ (w : Verdict Limits). upperAfter w (cells (placesOf shape)) toUpper) (sym e))
 
   module _ (g toLower toUpper : List ℕ) {r : JoinAnswer} {toLower′ toUpper′ : List ℕ} (answer : r ≡ joinAnswer (secondVerdict shape lower upper gate s t g toLower toUpper))
-    (low : toLower′ ≡ lowerAfter (secondVerdict shape lower upper gate s t g toLower toUpper) (cells (placesOf shape)) toLower)
-    (high : toUpper′ ≡ upperAfter (secondVerdict shape lower upper gate s t g toLower toUpper) (cells (placesOf shape)) toUpper) where
+      (low : toLower′ ≡ lowerAfter (secondVerdict shape lower upper gate s t g toLower toUpper) (cells (placesOf shape)) toLower)
+      (high : toUpper′ ≡ upperAfter (secondVerdict shape lower upper gate s t g toLower toUpper) (cells (placesOf shape)) toUpper) where
     abbrev sl : Limits
     sl = secondLimits gate (placesOf shape) (shape .m) s t (limitsOf lower upper) g
 
@@ -130,8 +129,8 @@ module _ (shape : Shape) (lower upper : List ℕ) (gate : Gate) (s t : ℕ) wher
               let i = block-inside (placesOf shape) t fl g (passes k) in
               let good = first-good (placesOf shape) (shape .m) s t gate (limitsOf lower upper) (record { room = w .ordered; top = w .top }) (passes (p .exists)) in
               let x =
-                  join-exact gate (placesOf shape) (shape .m) s t (limitsOf lower upper) w .second-exact (passes (p .exists)) g (λ c hc. let a = i c hc in omega (arith, good .top c hc))
-                  (block-blind (placesOf shape) t fl g (passes k)) i h grades blind
+              join-exact gate (placesOf shape) (shape .m) s t (limitsOf lower upper) w .second-exact (passes (p .exists)) g (λ c hc. let a = i c hc in omega (arith, good .top c hc))
+              (block-blind (placesOf shape) t fl g (passes k)) i h grades blind
               in
               let n = second-lengths gate (placesOf shape) (shape .m) s t (limitsOf lower upper) g in
               let a = low ∙ ap (λ (w : Verdict Limits). lowerAfter w (cells (placesOf shape)) toLower) z in

@@ -1,5 +1,5 @@
 -- The rows of a join call: what stopped it, or what they let pass.
-use Prim.Native.Nat.{ℕ, min, _≤_}
+use Prim.Native.Nat.{ℕ, min}
 use mathlib.Core.Path.{_≡_, refl, sym, _∙_, ap, subst}
 use mathlib.Core.Bool.{Bool, true, false, _&&_}
 use mathlib.Core.List.{List, [], _∷_}
@@ -8,7 +8,7 @@ use native.Mathlib.Omega.{arith}
 use lib.Dec.{T, leb, leb→le, le→leb}
 use Rattle.rules.specs.declared.Gate.{Gate}
 use Rattle.rules.specs.declared.Refusal.{Refusal}
-use Rattle.rules.specs.declared.Refusal.the-variants.{ShapeRange, GradeLimits, Sets, NoJoin, FirstBlock, ShortBuffer}
+use Rattle.rules.specs.declared.Refusal.the-variants.{ShapeRange, GradeLimits, Sets, NoJoin, ShortBuffer}
 use Rattle.rules.specs.Cell.{cells}
 use Rattle.rules.specs.Shape.{places, shapeSound}
 use Rattle.rules.specs.Verdict.{Verdict, accepted, refused, unless, roomy}

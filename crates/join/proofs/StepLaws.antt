@@ -1,10 +1,9 @@
 -- A join's steps on its work buffer: what each part holds after them.
 use Prim.Native.Nat.{ℕ, zero, suc, _+_, _-_, _*_, _≤_, _<_, max}
-use mathlib.Core.Path.{_≡_, refl, sym, _∙_, ap, ap₂, subst}
+use mathlib.Core.Path.{_≡_, refl, _∙_, ap, ap₂, subst}
 use mathlib.Core.Bool.{Bool, _&&_}
 use mathlib.Core.List.{List}
 use mathlib.Core.Logic.{inl, inr}
-use native.Mathlib.Nat.{zero-add}
 use native.Mathlib.Omega.{arith}
 use lib.Dec.{leb}
 use lib.ListN.{length}
@@ -12,7 +11,7 @@ use Rattle.rules.specs.declared.Gate.{Gate}
 use Rattle.rules.specs.Bytes.{at, tabulate, all}
 use Rattle.rules.specs.Cell.{cells, over, greatestOver, leastOver}
 use Rattle.rules.specs.Limits.{Limits}
-use Rattle.rules.specs.Join.{above, uA, uB, lA, lB, exchangeFor, exchangeBlockFor, joinExists, firstLimits, secondLimits}
+use Rattle.rules.specs.Join.{above, uA, uB, exchangeFor}
 use Rattle.laws.proofs.TableLaws.{at-tabulate, tabulate-same}
 use Rattle.laws.proofs.TestLaws.{by-order}
 use Rattle.laws.proofs.JoinLaws.{above-le}
@@ -20,7 +19,7 @@ use Rattle.laws.proofs.OverLaws.{Bound, max-bound, min-bound, over-bound}
 use Rattle.laws.proofs.LineLaws.{over-same}
 use Rattle.tables.specs.Part.{part, Laid, Apart}
 use Rattle.tables.proofs.PartLaws.{part-at}
-use Rattle.join.specs.Parts.{turned, Below, Holds, Placed, Within, Exchanging, Exchanged, Work, Begun, Opened, Existing, First, Second}
+use Rattle.join.specs.Parts.{turned, Below, Holds, Placed, Within, Exchanging, Exchanged, Work, Opened, Existing, First, Second}
 use Rattle.join.proofs.HoldLaws.{holds-at, laid-within, within-then, stays-below, stays-behind}
 use Rattle.join.proofs.TurnLaws.{turned-holds}
 
@@ -42,7 +41,7 @@ over-holds B ks set {w} {from} {to} {n} {u} e l h =
     record { here = λ c lt. l .here c lt ∙ ap (λ (f : List ℕ). at f c) (over-same B ks set (part w from n) u (λ d hd. part-at w from n d (omega arith) ∙ h .here d (omega arith))) }
 
 module _ (ks : List ℕ) (set high : ℕ) {w : List ℕ} {low to n : ℕ} {w′ : List ℕ} (e : n ≡ cells ks)
-  (l : Laid w to (greatestOver ks set (tabulate n (λ c. above (at (part w low n) c) (at (part w high n) c)))) n w′) where
+    (l : Laid w to (greatestOver ks set (tabulate n (λ c. above (at (part w low n) c) (at (part w high n) c)))) n w′) where
   above-holds : {x y : List ℕ} → Holds w low x n → Holds w high y n → Holds w′ to (greatestOver ks set (tabulate (cells ks) (λ c. above (at x c) (at y c)))) n
   above-holds {x} {y} hx hy =
       record {

@@ -1,26 +1,24 @@
 -- Tables made in a part: exchanged, and extremes over a set.
-use Prim.Native.Nat.{ℕ, _+_, _-_, _*_, _≤_, _<_, max, min}
-use mathlib.Core.Path.{_≡_, refl, sym, _∙_, ap, ap₂, subst}
+use Prim.Native.Nat.{ℕ, _+_, _-_, _*_, _≤_, _<_}
+use mathlib.Core.Path.{_≡_, sym, _∙_, ap, subst}
 use mathlib.Core.Bool.{Bool}
 use mathlib.Core.List.{List}
-use mathlib.Core.Logic.{_⊎_, inl, inr, ⊎-elim}
+use mathlib.Core.Logic.{inl, inr, ⊎-elim}
 use native.Mathlib.Omega.{arith}
-use lib.ListN.{length}
 use Rattle.rules.specs.declared.Gate.{Gate}
 use Rattle.rules.specs.declared.Gate.the-variants.{Min, Max}
-use Rattle.rules.specs.Bytes.{at, tabulate}
+use Rattle.rules.specs.Bytes.{at}
 use Rattle.rules.specs.Cell.{cells, over}
-use Rattle.rules.specs.Limits.{Limits}
-use Rattle.rules.specs.Join.{exchangeFor, exchangeBlockFor}
+use Rattle.rules.specs.Join.{exchangeBlockFor}
 use Rattle.laws.proofs.TableLaws.{at-tabulate}
 use Rattle.laws.proofs.GateLaws.{complement-at}
 use Rattle.laws.proofs.LineLaws.{over-same}
-use Rattle.tables.specs.Part.{part, Laid, Apart, Two}
+use Rattle.tables.specs.Part.{part, Laid, Two}
 use Rattle.tables.specs.Line.{best}
 use Rattle.tables.proofs.PartLaws.{part-at, laid-then, laid-same}
 use Rattle.tables.proofs.LineLaws.{best-bound}
 use Rattle.join.specs.Parts.{side, turned, Below, Holds, Placed, Within, Exchanging, Exchanged}
-use Rattle.join.proofs.HoldLaws.{laid-within, within-then, stays-below, stays-behind}
+use Rattle.join.proofs.HoldLaws.{laid-within, within-then, stays-below}
 
 pub below-part : {w : List ℕ} {a n m : ℕ} → Below w a n m → (c : ℕ) → c < n → at (part w a n) c ≤ m - 1
 below-part {w} {a} {n} b c h = rw (part-at w a n c h) (b .grade c h)
@@ -71,7 +69,7 @@ module _ {w : List ℕ} {m from to n : ℕ} (p : Exchanging w m from to n) where
     holds-on {a} {u} lo hi h = record { here = λ c lt. source-stays (a + c) (omega arith) (omega arith) ∙ h .here c lt }
 
   module _ (gate : Gate) (a b : ℕ) (ea : a ≡ side gate from (from + n)) (eb : b ≡ side gate (from + n) from) {v w′ : List ℕ}
-    (l : Laid w to (turned gate n m (part w a n)) n v) (k : Laid v (to + n) (turned gate n m (part v b n)) n w′) where
+      (l : Laid w to (turned gate n m (part w a n)) n v) (k : Laid v (to + n) (turned gate n m (part v b n)) n w′) where
     both : (ks : List ℕ) (x y : List ℕ) → n ≡ cells ks → Holds w a x n → Holds w b y n
         → Placed w′ to (record { lower = exchangeBlockFor gate ks m x; upper = exchangeBlockFor gate ks m y }) n
     both ks x y e hx hy =

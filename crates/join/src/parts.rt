@@ -55,7 +55,15 @@ pub fn least(w: &mut [u8], ks: [u8; 8], set: u8, from: usize, to: usize, n: usiz
 }
 
 // The greatest, over a set, of the low grades that are above the high table's.
-pub fn greatest_above(w: &mut [u8], ks: [u8; 8], set: u8, low: usize, high: usize, to: usize, n: usize)
+pub fn greatest_above(
+    w: &mut [u8],
+    ks: [u8; 8],
+    set: u8,
+    low: usize,
+    high: usize,
+    to: usize,
+    n: usize,
+)
     requires { ⌜ Shaped ks × (n ≡ cells ks) × Two (now w) low to n × Two (now w) high to n ⌝ }
     ensures { λ _. ⌜ Laid (now (w .entry)) to (greatestOver ks set (tabulate n (λ c. above (at (part (now (w .entry)) low n) c) (at (part (now (w .entry)) high n) c)))) n (now (w .exit)) ⌝ }
 {

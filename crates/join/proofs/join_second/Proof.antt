@@ -1,14 +1,9 @@
 -- `join::join_second` meets its contract.
--- Assumes nothing.
-use mathlib.Core.Path.{_≡_, refl, sym, ap, subst, _∙_}
-use mathlib.Core.List.{List, [], _∷_, _++_}
-use mathlib.Core.Logic.{⊎-elim}
-use Prim.Native.Nat.{ℕ, _+_, _-_, _*_, _/_, _%_, _≤_, _<_}
-use native.Mathlib.Omega.{arith}
-use lib.ListN.{length, getD, take, drop, set, length-set, length-take, length-drop}
+use mathlib.Core.Path.{refl, ap, _∙_}
+use mathlib.Core.List.{[], _∷_}
+use lib.ListN.{length, replicate}
 use borrow.Author.Needs.{needs}
 use Prim.Native.Nat.{min}
-use lib.ListN.{replicate}
 use borrow.Author.Tests.{not-true, not-false}
 use Rattle.rules.specs.declared.Refusal.the-variants.{FirstBlock}
 use Rattle.rules.specs.Verdict.{accepted, refused}
@@ -16,17 +11,6 @@ use Rattle.join.proofs.PromiseLaws.{second-by}
 use Rattle.join.proofs.CallLaws.{Call, small, enough, first-ready, block-ready, verdict-by, second-ready, second-written, stopped-by}
 use Rattle.join.proofs.join_second.Statement.{statement}
 use Rattle.join.proofs.join_second.Tie as tie
-use Rattle.join.proofs.join_second.Reads as reads
-use Rattle.join.proofs.join_second.Lts as lts
-use Rattle.join.proofs.parts.block_sound.Reads as block-sound-reads
-use Rattle.join.proofs.parts.first_limits.Reads as first-limits-reads
-use Rattle.join.proofs.parts.second_limits.Reads as second-limits-reads
-use Rattle.join.proofs.rows.Reads as rows-reads
-use Rattle.join.proofs.shorter.Reads as shorter-reads
-use Rattle.places.proofs.cell_count.Reads as cell-count-reads
-use Rattle.shape.proofs.Shape.places.Reads as places-reads
-use Rattle.tables.proofs.fill.load.Reads as load-reads
-use Rattle.tables.proofs.fill.unload.Reads as unload-reads
 
 places-requires : tie.Need-places-requires
 places-requires c κs = search needs

@@ -1,23 +1,11 @@
 -- `join::rows` meets its contract.
--- Assumes nothing.
-use mathlib.Core.Path.{_≡_, refl, sym, ap, subst, _∙_}
-use mathlib.Core.List.{List, [], _∷_, _++_}
-use mathlib.Core.Logic.{⊎-elim}
-use Prim.Native.Nat.{ℕ, _+_, _-_, _*_, _/_, _%_, _≤_, _<_}
+use mathlib.Core.Path.{sym, _∙_}
 use native.Mathlib.Omega.{arith}
-use lib.ListN.{length, getD, take, drop, set, length-set, length-take, length-drop}
 use borrow.Author.Needs.{needs}
 use borrow.Author.Tests.{not-true, not-false}
 use Rattle.join.proofs.OpenLaws.{shape-stop, short-stop, limits-stop, sets-stop, small, exists-ready, join-stop, rows-pass}
 use Rattle.join.proofs.rows.Statement.{statement}
 use Rattle.join.proofs.rows.Tie as tie
-use Rattle.join.proofs.rows.Reads as reads
-use Rattle.join.proofs.rows.Lts as lts
-use Rattle.join.proofs.parts.exists.Reads as exists-reads
-use Rattle.join.proofs.sets.sets_sound.Reads as sets-sound-reads
-use Rattle.shape.proofs.Shape.sound.Reads as sound-reads
-use Rattle.tables.proofs.fill.load.Reads as load-reads
-use Rattle.tables.proofs.limits.limits_sound.Reads as limits-sound-reads
 
 sound-requires : tie.Need-sound-requires
 sound-requires c κs = search needs

@@ -1,22 +1,11 @@
 -- `join::parts::blind` meets its contract.
--- Assumes nothing.
-use mathlib.Core.Path.{_≡_, refl, sym, ap, subst, _∙_}
-use mathlib.Core.List.{List, [], _∷_, _++_}
-use mathlib.Core.Logic.{⊎-elim}
-use Prim.Native.Nat.{ℕ, _+_, _-_, _*_, _/_, _%_, _≤_, _<_}
-use native.Mathlib.Omega.{arith}
-use lib.ListN.{length, getD, take, drop, set, length-set, length-take, length-drop}
+use lib.ListN.{set}
 use borrow.Author.Needs.{needs}
 use mathlib.Core.Bool.{true}
 use Rattle.join.proofs.TurnLaws.{over-laid}
 use Rattle.join.proofs.JudgeLaws.{blinded}
 use Rattle.join.proofs.parts.blind.Statement.{statement}
 use Rattle.join.proofs.parts.blind.Tie as tie
-use Rattle.join.proofs.parts.blind.Reads as reads
-use Rattle.join.proofs.parts.blind.Lts as lts
-use Rattle.tables.proofs.extremes.over_set.Reads as over-set-reads
-use Rattle.tables.proofs.fill.copy.Reads as copy-reads
-use Rattle.tables.proofs.tests.fits.Reads as fits-reads
 
 copy-requires : tie.Need-copy-requires
 copy-requires c κs = search needs

@@ -1,20 +1,10 @@
 -- `join::parts::block_sound` meets its contract.
--- Assumes nothing.
-use mathlib.Core.Path.{_≡_, refl, sym, ap, subst, _∙_}
-use mathlib.Core.List.{List, [], _∷_, _++_}
-use mathlib.Core.Logic.{⊎-elim}
-use Prim.Native.Nat.{ℕ, _+_, _-_, _*_, _/_, _%_, _≤_, _<_}
-use native.Mathlib.Omega.{arith}
-use lib.ListN.{length, getD, take, drop, set, length-set, length-take, length-drop}
+use mathlib.Core.Path.{sym, _∙_}
 use borrow.Author.Needs.{needs}
 use borrow.Author.Tests.{not-true, not-false}
 use Rattle.join.proofs.JudgeLaws.{blind-room, below-limits, above-limits, judged}
 use Rattle.join.proofs.parts.block_sound.Statement.{statement}
 use Rattle.join.proofs.parts.block_sound.Tie as tie
-use Rattle.join.proofs.parts.block_sound.Reads as reads
-use Rattle.join.proofs.parts.block_sound.Lts as lts
-use Rattle.join.proofs.parts.blind.Reads as blind-reads
-use Rattle.tables.proofs.tests.fits.Reads as fits-reads
 
 mul-fits : tie.Need-mul-fits
 mul-fits c = search needs

@@ -1,19 +1,10 @@
 -- `join::parts::exchange` meets its contract.
--- Assumes nothing.
-use mathlib.Core.Path.{_≡_, refl, sym, ap, subst, _∙_}
-use mathlib.Core.List.{List, [], _∷_, _++_}
-use mathlib.Core.Logic.{⊎-elim}
-use Prim.Native.Nat.{ℕ, _+_, _-_, _*_, _/_, _%_, _≤_, _<_}
+use Prim.Native.Nat.{_+_}
 use native.Mathlib.Omega.{arith}
-use lib.ListN.{length, getD, take, drop, set, length-set, length-take, length-drop}
 use borrow.Author.Needs.{needs}
 use Rattle.join.proofs.TurnLaws.{side-in, source, exchanging-on, exchanged}
 use Rattle.join.proofs.parts.exchange.Statement.{statement}
 use Rattle.join.proofs.parts.exchange.Tie as tie
-use Rattle.join.proofs.parts.exchange.Reads as reads
-use Rattle.join.proofs.parts.exchange.Lts as lts
-use Rattle.join.proofs.parts.exchange_block.Reads as exchange-block-reads
-use Rattle.join.proofs.parts.side.Reads as side-reads
 
 add-next : tie.Need-add-next
 add-next c = search needs

@@ -1,19 +1,8 @@
 -- `join::parts::exchange_block` meets its contract.
--- Assumes nothing.
-use mathlib.Core.Path.{_≡_, refl, sym, ap, subst, _∙_}
-use mathlib.Core.List.{List, [], _∷_, _++_}
-use mathlib.Core.Logic.{⊎-elim}
-use Prim.Native.Nat.{ℕ, _+_, _-_, _*_, _/_, _%_, _≤_, _<_}
-use native.Mathlib.Omega.{arith}
-use lib.ListN.{length, getD, take, drop, set, length-set, length-take, length-drop}
 use borrow.Author.Needs.{needs}
 use Rattle.join.proofs.TurnLaws.{below-part}
 use Rattle.join.proofs.parts.exchange_block.Statement.{statement}
 use Rattle.join.proofs.parts.exchange_block.Tie as tie
-use Rattle.join.proofs.parts.exchange_block.Reads as reads
-use Rattle.join.proofs.parts.exchange_block.Lts as lts
-use Rattle.tables.proofs.fill.complement.Reads as complement-reads
-use Rattle.tables.proofs.fill.copy.Reads as copy-reads
 
 enum-told : tie.Need-enum-told
 enum-told c = search needs

@@ -1,20 +1,8 @@
 -- `join::parts::exists` meets its contract.
--- Assumes nothing.
-use mathlib.Core.Path.{_≡_, refl, sym, ap, subst, _∙_}
-use mathlib.Core.List.{List, [], _∷_, _++_}
-use mathlib.Core.Logic.{⊎-elim}
-use Prim.Native.Nat.{ℕ, _+_, _-_, _*_, _/_, _%_, _≤_, _<_}
-use native.Mathlib.Omega.{arith}
-use lib.ListN.{length, getD, take, drop, set, length-set, length-take, length-drop}
 use borrow.Author.Needs.{needs}
 use Rattle.join.proofs.StepLaws.{exists-exchange, exists-first, exists-second, existing}
 use Rattle.join.proofs.parts.exists.Statement.{statement}
 use Rattle.join.proofs.parts.exists.Tie as tie
-use Rattle.join.proofs.parts.exists.Reads as reads
-use Rattle.join.proofs.parts.exists.Lts as lts
-use Rattle.join.proofs.parts.exchange.Reads as exchange-reads
-use Rattle.join.proofs.parts.least.Reads as least-reads
-use Rattle.tables.proofs.tests.within_either.Reads as within-either-reads
 
 mul-exchange : tie.Need-mul-exchange
 mul-exchange c = search needs

@@ -1,20 +1,10 @@
 -- `join::parts::least` meets its contract.
--- Assumes nothing.
-use mathlib.Core.Path.{_≡_, refl, sym, ap, subst, _∙_}
-use mathlib.Core.List.{List, [], _∷_, _++_}
-use mathlib.Core.Logic.{⊎-elim}
-use Prim.Native.Nat.{ℕ, _+_, _-_, _*_, _/_, _%_, _≤_, _<_}
-use native.Mathlib.Omega.{arith}
-use lib.ListN.{length, getD, take, drop, set, length-set, length-take, length-drop}
+use lib.ListN.{set}
 use borrow.Author.Needs.{needs}
-use mathlib.Core.Bool.{true, false}
+use mathlib.Core.Bool.{false}
 use Rattle.join.proofs.TurnLaws.{over-laid}
 use Rattle.join.proofs.parts.least.Statement.{statement}
 use Rattle.join.proofs.parts.least.Tie as tie
-use Rattle.join.proofs.parts.least.Reads as reads
-use Rattle.join.proofs.parts.least.Lts as lts
-use Rattle.tables.proofs.extremes.over_set.Reads as over-set-reads
-use Rattle.tables.proofs.fill.copy.Reads as copy-reads
 
 copy-requires : tie.Need-copy-requires
 copy-requires c κs = search needs

@@ -1,20 +1,8 @@
 -- `join::parts::second_limits` meets its contract.
--- Assumes nothing.
-use mathlib.Core.Path.{_≡_, refl, sym, ap, subst, _∙_}
-use mathlib.Core.List.{List, [], _∷_, _++_}
-use mathlib.Core.Logic.{⊎-elim}
-use Prim.Native.Nat.{ℕ, _+_, _-_, _*_, _/_, _%_, _≤_, _<_}
-use native.Mathlib.Omega.{arith}
-use lib.ListN.{length, getD, take, drop, set, length-set, length-take, length-drop}
 use borrow.Author.Needs.{needs}
 use Rattle.join.proofs.StepLaws.{second-block, second-low, second-high, second-exchange, second}
 use Rattle.join.proofs.parts.second_limits.Statement.{statement}
 use Rattle.join.proofs.parts.second_limits.Tie as tie
-use Rattle.join.proofs.parts.second_limits.Reads as reads
-use Rattle.join.proofs.parts.second_limits.Lts as lts
-use Rattle.join.proofs.parts.exchange.Reads as exchange-reads
-use Rattle.join.proofs.parts.exchange_block.Reads as exchange-block-reads
-use Rattle.join.proofs.parts.greatest_above.Reads as greatest-above-reads
 
 mul-exchange-block : tie.Need-mul-exchange-block
 mul-exchange-block c = search needs

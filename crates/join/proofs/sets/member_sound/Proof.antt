@@ -1,16 +1,7 @@
 -- `join::sets::member_sound` meets its contract.
--- Assumes nothing.
-use mathlib.Core.Path.{_≡_, refl, sym, ap, subst, _∙_}
-use mathlib.Core.List.{List, [], _∷_, _++_}
-use mathlib.Core.Logic.{⊎-elim}
-use Prim.Native.Nat.{ℕ, _+_, _-_, _*_, _/_, _%_, _≤_, _<_}
-use native.Mathlib.Omega.{arith}
-use lib.ListN.{length, getD, take, drop, set, length-set, length-take, length-drop}
 use borrow.Author.Needs.{needs}
 use Rattle.join.proofs.sets.member_sound.Statement.{statement}
 use Rattle.join.proofs.sets.member_sound.Tie as tie
-use Rattle.join.proofs.sets.member_sound.Reads as reads
-use Rattle.join.proofs.sets.member_sound.Lts as lts
 
 returns : tie.Need-returns
 returns c = search needs

@@ -1,11 +1,7 @@
 -- `join::sets::sets_sound` meets its contract.
--- Assumes nothing.
-use mathlib.Core.Path.{_≡_, refl, sym, ap, subst, _∙_}
-use mathlib.Core.List.{List, [], _∷_, _++_}
-use mathlib.Core.Logic.{⊎-elim}
-use Prim.Native.Nat.{ℕ, _+_, _-_, _*_, _/_, _%_, _≤_, _<_}
+use mathlib.Core.Path.{_≡_, refl, sym, _∙_}
+use Prim.Native.Nat.{ℕ, _-_, _≤_, _<_}
 use native.Mathlib.Omega.{arith}
-use lib.ListN.{length, getD, take, drop, set, length-set, length-take, length-drop}
 use borrow.Author.Needs.{needs}
 use mathlib.Core.Bool.{true, false}
 use borrow.Author.Count.{below-more}
@@ -14,10 +10,6 @@ use Rattle.tables.proofs.ScanLaws.{all-passed, all-failed}
 use Rattle.join.proofs.SetsLaws.{memberTest, member-is, sets-by}
 use Rattle.join.proofs.sets.sets_sound.Statement.{statement}
 use Rattle.join.proofs.sets.sets_sound.Tie as tie
-use Rattle.join.proofs.sets.sets_sound.Reads as reads
-use Rattle.join.proofs.sets.sets_sound.Lts as lts
-use Rattle.join.proofs.sets.member_sound.Reads as member-sound-reads
-use Rattle.places.proofs.has_member.Reads as has-member-reads
 
 abbrev Inv-loop : tie.InvT-loop
 Inv-loop s t ks i₀ i = (i ≤ 8) × (s ≡ 0 → ⊥) × (t ≡ 0 → ⊥) × ((k : ℕ) → k < i → memberTest ks s t k ≡ true)

@@ -1,20 +1,13 @@
 -- `tables::fill::load` meets its contract.
--- Assumes nothing.
-use mathlib.Core.Path.{_≡_, refl, sym, ap, subst, _∙_}
-use mathlib.Core.List.{List, [], _∷_, _++_}
-use mathlib.Core.Logic.{⊎-elim}
-use Prim.Native.Nat.{ℕ, _+_, _-_, _*_, _/_, _%_, _≤_, _<_}
+use mathlib.Core.Path.{refl, sym, ap, _∙_}
+use Prim.Native.Nat.{_-_, _≤_}
 use native.Mathlib.Omega.{arith}
 use native.Mathlib.Nat.{zero-add}
-use lib.ListN.{length, getD, take, drop, set, length-set, length-take, length-drop}
 use borrow.Author.Needs.{needs}
 use Rattle.rules.specs.Bytes.{at}
-use Rattle.tables.specs.Part.{part}
 use Rattle.tables.proofs.PartLaws.{Filled, filled-none, filled-more, filled-laid, part-at}
 use Rattle.tables.proofs.fill.load.Statement.{statement}
 use Rattle.tables.proofs.fill.load.Tie as tie
-use Rattle.tables.proofs.fill.load.Reads as reads
-use Rattle.tables.proofs.fill.load.Lts as lts
 
 abbrev Inv-loop : tie.InvT-loop
 Inv-loop w₀ from to n c₀ w c = (c ≤ n) × Filled w₀ to (at from) c w

@@ -1,20 +1,14 @@
 -- `tables::fill::unload` meets its contract.
--- Assumes nothing.
-use mathlib.Core.Path.{_≡_, refl, sym, ap, subst, _∙_}
-use mathlib.Core.List.{List, [], _∷_, _++_}
-use mathlib.Core.Logic.{⊎-elim}
-use Prim.Native.Nat.{ℕ, _+_, _-_, _*_, _/_, _%_, _≤_, _<_}
+use mathlib.Core.Path.{refl, sym}
+use Prim.Native.Nat.{_-_, _≤_}
 use native.Mathlib.Omega.{arith}
 use native.Mathlib.Nat.{zero-add}
-use lib.ListN.{length, getD, take, drop, set, length-set, length-take, length-drop}
 use borrow.Author.Needs.{needs}
 use Rattle.rules.specs.Bytes.{at}
 use Rattle.tables.specs.Part.{part}
 use Rattle.tables.proofs.PartLaws.{Filled, filled-none, filled-more, filled-laid, part-at, part-length, laid-front}
 use Rattle.tables.proofs.fill.unload.Statement.{statement}
 use Rattle.tables.proofs.fill.unload.Tie as tie
-use Rattle.tables.proofs.fill.unload.Reads as reads
-use Rattle.tables.proofs.fill.unload.Lts as lts
 
 abbrev Inv-loop : tie.InvT-loop
 Inv-loop w from to₀ n c₀ to c = (c ≤ n) × Filled to₀ 0 (at (part w from n)) c to

@@ -1,11 +1,7 @@
 -- `tables::limits::limits_sound` meets its contract.
--- Assumes nothing.
-use mathlib.Core.Path.{_≡_, refl, sym, ap, subst, _∙_}
-use mathlib.Core.List.{List, [], _∷_, _++_}
-use mathlib.Core.Logic.{⊎-elim}
-use Prim.Native.Nat.{ℕ, _+_, _-_, _*_, _/_, _%_, _≤_, _<_}
+use mathlib.Core.Path.{_≡_, sym}
+use Prim.Native.Nat.{ℕ, _-_, _≤_, _<_}
 use native.Mathlib.Omega.{arith}
-use lib.ListN.{length, getD, take, drop, set, length-set, length-take, length-drop}
 use mathlib.Core.Bool.{true, _&&_}
 use lib.Dec.{leb, ltb}
 use borrow.Author.Count.{below-more}
@@ -15,8 +11,6 @@ use Rattle.rules.specs.Bytes.{at}
 use Rattle.tables.proofs.ScanLaws.{all-passed, all-failed}
 use Rattle.tables.proofs.limits.limits_sound.Statement.{statement}
 use Rattle.tables.proofs.limits.limits_sound.Tie as tie
-use Rattle.tables.proofs.limits.limits_sound.Reads as reads
-use Rattle.tables.proofs.limits.limits_sound.Lts as lts
 
 abbrev Inv-loop : tie.InvT-loop
 Inv-loop lower upper m n c₀ c = (c ≤ n) × ((k : ℕ) → k < c → (leb (at lower k) (at upper k) && ltb (at upper k) m) ≡ true)
