@@ -1,5 +1,7 @@
 // The eight places of a shape, and sets of conditions. A place holds the cardinality of its
 // condition, 1 where there is none.
+pub mod sets;
+
 ghost use mathlib.Core.Path.{_≡_};
 ghost use Prim.Native.Nat.{ℕ, _≤_, _<_, _+_};
 ghost use lib.ListN.{length};

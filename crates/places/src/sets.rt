@@ -1,0 +1,76 @@
+// Sets of conditions: bit i of a byte says whether condition i is a member. And the conditions that
+// eight places have.
+ghost use Prim.Native.Nat.{_<_};
+ghost use mathlib.Core.Path.{_≡_};
+ghost use lib.Dec.{T};
+ghost use Rattle.rules.specs.Cell.{has, insert, singleton, without, width, lowest};
+ghost use Rattle.rules.specs.Stage.{count};
+
+const BITS: [u8; 8] = [1, 2, 4, 8, 16, 32, 64, 128];
+
+// The set of condition i alone.
+pub fn singleton(i: usize) -> u8
+    requires { ⌜ i < 8 ⌝ }
+    ensures { λ r. ⌜ r ≡ singleton i ⌝ }
+{
+    BITS[i]
+}
+
+// A set with condition i, which it does not have yet.
+pub fn insert(set: u8, i: usize) -> u8
+    requires { ⌜ (i < 8) × (T (has set i) → ⊥) ⌝ }
+    ensures { λ r. ⌜ r ≡ insert set i ⌝ }
+{
+    set + BITS[i]
+}
+
+// How many conditions a set has.
+pub fn count(set: u8) -> usize
+    ensures { λ r. ⌜ r ≡ count set ⌝ }
+{
+    let mut rest = set;
+    let mut found: usize = 0;
+    for _ in 0usize..8 {
+        found = found + (rest % 2) as usize;
+        rest = rest / 2;
+    }
+    found
+}
+
+// The places without the conditions of a set.
+pub fn without(ks: [u8; 8], set: u8) -> [u8; 8]
+    ensures { λ r. ⌜ r ≡ without set ks ⌝ }
+{
+    let mut left = ks;
+    for i in 0..8 {
+        if crate::has_member(set, i) {
+            left[i] = 1;
+        }
+    }
+    left
+}
+
+// How many conditions the places have.
+pub fn width(ks: [u8; 8]) -> usize
+    ensures { λ r. ⌜ r ≡ width ks ⌝ }
+{
+    let mut found: usize = 0;
+    for i in 0..8 {
+        if 1 < ks[i] {
+            found += 1;
+        }
+    }
+    found
+}
+
+// The condition with the lowest number, 8 where there is none.
+pub fn lowest(ks: [u8; 8]) -> usize
+    ensures { λ r. ⌜ r ≡ lowest ks ⌝ }
+{
+    for i in 0..8 {
+        if 1 < ks[i] {
+            return i;
+        }
+    }
+    8
+}
