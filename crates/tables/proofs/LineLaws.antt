@@ -115,7 +115,7 @@ seed-any greatest f i j n hi hj = B .anti (half i j hi) (half j i hj)
     half i j h = overTo-both B (λ u. true) f (f i) _ n (overTo-at B (λ u. true) f (f j) n i h tt) (λ d hd t. overTo-at B (λ u. true) f (f j) n d hd tt)
 
 -- cell k of a table at a, cell v of line o of block b: its line in the table is the line in the buffer
-line-table : (greatest : Bool) (w : List ℕ) (a n step card k o v b : ℕ) → o < step → v < card → k ≡ o + step * v + step * card * b
+pub line-table : (greatest : Bool) (w : List ℕ) (a n step card k o v b : ℕ) → o < step → v < card → k ≡ o + step * v + step * card * b
     → ((u : ℕ) → u < card → o + step * card * b + step * u < n)
     → overTo (best greatest) (λ u. true) (λ u. at (part w a n) (k % step + k / step / card * card * step + u * step)) (at (part w a n) k) card
     ≡ lineBest greatest w (a + step * card * b + o) step card

@@ -18,7 +18,7 @@ pub fn extreme(greatest: bool, a: u8, b: u8) -> u8
 }
 
 // The extreme of the bytes at a, a + step, .., card of them.
-fn line_extreme(w: &[u8], greatest: bool, a: usize, step: usize, card: usize) -> u8
+pub fn line_extreme(w: &[u8], greatest: bool, a: usize, step: usize, card: usize) -> u8
     requires { ⌜ Line (now w) a step card ⌝ }
     ensures { λ r. ⌜ r ≡ lineBest greatest (now (w .entry)) a step card ⌝ }
 {

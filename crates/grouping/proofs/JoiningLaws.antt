@@ -1,0 +1,103 @@
+-- Tests of every cell, and the rules that they decide.
+use Prim.Native.Nat.{ℕ, _+_, _<_, max}
+use mathlib.Core.Path.{_≡_, refl, sym, _∙_, ap₂}
+use mathlib.Core.Bool.{Bool, true, false}
+use mathlib.Core.List.{List}
+use native.Mathlib.Nat.{le-trans}
+use native.Mathlib.Omega.{arith}
+use lib.Dec.{T, leb, leb→le, le→leb}
+use Rattle.rules.specs.Bytes.{at, all}
+use Rattle.rules.specs.Cell.{cells, singleton, leastOver, greatestOver}
+use Rattle.rules.specs.Stage.{fits, merged}
+use Rattle.laws.proofs.OverLaws.{max-bound, min-bound, over-self, over-least, over-blind}
+use Rattle.laws.proofs.TableLaws.{all-at, all-of}
+use Rattle.tables.specs.Part.{part, Shaped}
+use Rattle.tables.specs.Line.{lineBest}
+use Rattle.tables.proofs.PartLaws.{part-at}
+use Rattle.tables.proofs.ScanLaws.{all-passed, all-failed}
+use Rattle.grouping.specs.Joining.{lineStart, stageAt, joins, joinsAt, admits}
+use Rattle.grouping.proofs.LeastLaws.{Axis, least-at}
+
+-- a scan by the test q, which is p at each of n cells
+module _ {n : ℕ} {p q : ℕ → Bool} (same : (k : ℕ) → k < n → q k ≡ p k) where
+  scan-passed : {c : ℕ} → c ≡ n → ((k : ℕ) → k < c → q k ≡ true) → true ≡ all n p
+  scan-passed {c} e h = sym (all-passed n p e (λ k l. sym (same k (omega arith)) ∙ h k l))
+
+  scan-failed : (k : ℕ) → k < n → q k ≡ false → false ≡ all n p
+  scan-failed k h e = sym (all-failed n p k h (sym (same k h) ∙ e))
+
+-- two tests of which each gives the other
+iff : (a b : Bool) → (T a → T b) → (T b → T a) → a ≡ b
+iff true true f g = refl
+iff true false f g = absurd (f tt)
+iff false true f g = absurd (g tt)
+iff false false f g = refl
+
+-- the test of a drop, cell by cell
+abbrev pub dropCell : List ℕ → ℕ → ℕ → ℕ → ℕ → ℕ → Bool
+dropCell w low high stp crd k = leb (at w (low + k)) (lineBest false w (lineStart high k stp crd) stp crd)
+
+module _ (w : List ℕ) {ks : List ℕ} {i : ℕ} (low high : ℕ) {stp crd : ℕ} (shaped : Shaped ks) (x : Axis ks i stp crd) where
+  drop-same : (k : ℕ) → k < cells ks → dropCell w low high stp crd k ≡ leb (at (part w low (cells ks)) k) (at (leastOver ks (singleton i) (part w high (cells ks))) k)
+  drop-same k h = ap₂ leb (sym (part-at w low (cells ks) k h)) (least-at shaped x w high k h)
+
+  -- a table is below one that is blind to i where its greatest over i is
+  drop-is : all (cells ks) (λ k. leb (at (part w low (cells ks)) k) (at (leastOver ks (singleton i) (part w high (cells ks))) k)) ≡ fits ks (merged i (stageAt ks w low high))
+  drop-is =
+      let l = part w low (cells ks) in
+      let g = greatestOver ks (singleton i) l in
+      let u = leastOver ks (singleton i) (part w high (cells ks)) in
+      iff (all (cells ks) (λ k. leb (at l k) (at u k))) (all (cells ks) (λ k. leb (at g k) (at u k)))
+      (λ t.
+      all-of (cells ks) (λ k. leb (at g k) (at u k))
+      (λ c hc.
+      le→leb _ _
+      (over-least max-bound ks (singleton i) l (at u) (over-blind min-bound ks (singleton i) (part w high (cells ks)))
+      (λ d hd. leb→le _ _ (all-at (cells ks) (λ k. leb (at l k) (at u k)) t d hd)) c hc)))
+      (λ t.
+      all-of (cells ks) (λ k. leb (at l k) (at u k))
+      (λ c hc. le→leb _ _ (le-trans (over-self max-bound ks (singleton i) l c hc) (leb→le _ _ (all-at (cells ks) (λ k. leb (at g k) (at u k)) t c hc)))))
+
+  pub drop-passed : {c : ℕ} → c ≡ cells ks → ((k : ℕ) → k < c → dropCell w low high stp crd k ≡ true) → true ≡ fits ks (merged i (stageAt ks w low high))
+  drop-passed e h = scan-passed drop-same e h ∙ drop-is
+
+  pub drop-failed : (k : ℕ) → k < cells ks → dropCell w low high stp crd k ≡ false → false ≡ fits ks (merged i (stageAt ks w low high))
+  drop-failed k h e = scan-failed drop-same k h e ∙ drop-is
+
+-- the test of a pair, cell by cell: i's step and cardinality, then j's
+abbrev pub pairCell : List ℕ → ℕ → ℕ → ℕ → ℕ → ℕ → ℕ → ℕ → Bool
+pairCell w low high stp crd stp′ crd′ k = leb (at w (low + k)) (max (lineBest false w (lineStart high k stp′ crd′) stp′ crd′) (lineBest false w (lineStart high k stp crd) stp crd))
+
+module _ (w : List ℕ) {ks : List ℕ} {i j : ℕ} (low high : ℕ) {stp crd stp′ crd′ : ℕ} (shaped : Shaped ks) (x : Axis ks i stp crd) (y : Axis ks j stp′ crd′) where
+  pair-same : (k : ℕ) → k < cells ks
+      → pairCell w low high stp crd stp′ crd′ k
+      ≡ leb (at (part w low (cells ks)) k) (max (at (leastOver ks (singleton j) (part w high (cells ks))) k) (at (leastOver ks (singleton i) (part w high (cells ks))) k))
+  pair-same k h = ap₂ leb (sym (part-at w low (cells ks) k h)) (ap₂ max (least-at shaped y w high k h) (least-at shaped x w high k h))
+
+  pub pair-passed : {c : ℕ} → c ≡ cells ks → ((k : ℕ) → k < c → pairCell w low high stp crd stp′ crd′ k ≡ true) → true ≡ joinsAt ks w low high (singleton i) (singleton j)
+  unfolding joins
+  pair-passed e h = scan-passed pair-same e h
+
+  pub pair-failed : (k : ℕ) → k < cells ks → pairCell w low high stp crd stp′ crd′ k ≡ false → false ≡ joinsAt ks w low high (singleton i) (singleton j)
+  unfolding joins
+  pair-failed k h e = scan-failed pair-same k h e
+
+-- the test of an addition, cell by cell
+abbrev pub addCell : List ℕ → ℕ → ℕ → ℕ → ℕ → ℕ → ℕ → Bool
+addCell w low keep grow stp crd k = leb (at w (low + k)) (max (at w (keep + k)) (lineBest false w (lineStart grow k stp crd) stp crd))
+
+module _ (w : List ℕ) {ks : List ℕ} {i : ℕ} (low keep grow : ℕ) {stp crd : ℕ} (shaped : Shaped ks) (x : Axis ks i stp crd) where
+  add-same : (k : ℕ) → k < cells ks
+      → addCell w low keep grow stp crd k
+      ≡ leb (at (part w low (cells ks)) k) (max (at (part w keep (cells ks)) k) (at (leastOver ks (singleton i) (part w grow (cells ks))) k))
+  add-same k h = ap₂ leb (sym (part-at w low (cells ks) k h)) (ap₂ max (sym (part-at w keep (cells ks) k h)) (least-at shaped x w grow k h))
+
+  pub add-passed : {c : ℕ} → c ≡ cells ks → ((k : ℕ) → k < c → addCell w low keep grow stp crd k ≡ true)
+      → true ≡ admits ks i (part w low (cells ks)) (part w keep (cells ks)) (part w grow (cells ks))
+  unfolding admits
+  add-passed e h = scan-passed add-same e h
+
+  pub add-failed : (k : ℕ) → k < cells ks → addCell w low keep grow stp crd k ≡ false
+      → false ≡ admits ks i (part w low (cells ks)) (part w keep (cells ks)) (part w grow (cells ks))
+  unfolding admits
+  add-failed k h e = scan-failed add-same k h e

@@ -1,0 +1,43 @@
+-- Tests of joins on tables that are parts of one buffer.
+use Prim.Native.Nat.{ℕ, _+_, _*_, _/_, _%_, _≤_, _<_, max}
+use mathlib.Core.Bool.{Bool}
+use mathlib.Core.List.{List}
+use lib.Dec.{leb}
+use lib.ListN.{length}
+use Rattle.rules.specs.Bytes.{at, all}
+use Rattle.rules.specs.Cell.{cells, singleton, leastOver}
+use Rattle.rules.specs.Join.{maxExists}
+use Rattle.rules.specs.Stage.{Stage}
+use Rattle.tables.specs.Part.{part, Shaped}
+use Rattle.tables.specs.Line.{Line}
+
+-- where the line through cell c of the table at a starts
+abbrev pub lineStart : ℕ → ℕ → ℕ → ℕ → ℕ
+lineStart a c step card = a + (c % step + c / (step * card) * (step * card))
+
+-- that line lies within the buffer, and its block is small
+pub record LineAt (w : List ℕ) (a c step card : ℕ) : Type 0 where
+  pub line : Line w (lineStart a c step card) step card
+  pub few : step * card ≤ 1024
+
+-- two tables over the places ks
+pub record Tables (w ks : List ℕ) (a b : ℕ) : Type 0 where
+  pub shaped : Shaped ks
+  pub first : a + cells ks ≤ length w
+  pub second : b + cells ks ≤ length w
+
+-- the stage whose limits stand at low and at high
+abbrev pub stageAt : List ℕ → List ℕ → ℕ → ℕ → Stage
+stageAt ks w low high = record { ks = ks; limits = record { lower = part w low (cells ks); upper = part w high (cells ks) } }
+
+-- whether the max join at two sets exists, under the lower grades l and the upper grades u
+unfoldable pub joins : List ℕ → List ℕ → List ℕ → ℕ → ℕ → Bool
+joins ks l u s t = maxExists ks s t l u
+
+-- under the limits that stand at low and at high
+abbrev pub joinsAt : List ℕ → List ℕ → ℕ → ℕ → ℕ → ℕ → Bool
+joinsAt ks w low high = joins ks (part w low (cells ks)) (part w high (cells ks))
+
+-- no lower grade is above both the table that is kept and the least over condition i of the table that grows
+unfoldable pub admits : List ℕ → ℕ → List ℕ → List ℕ → List ℕ → Bool
+admits ks i l keep grow = let least = leastOver ks (singleton i) grow in all (cells ks) (λ c. leb (at l c) (max (at keep c) (at least c)))

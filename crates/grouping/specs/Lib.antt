@@ -1,0 +1,2 @@
+-- What the contracts of the grouping functions cite.
+pub mod Joining
