@@ -1,2 +1,3 @@
 -- What the contracts of the grouping functions cite.
 pub mod Joining
+pub mod Searching

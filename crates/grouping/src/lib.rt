@@ -1,6 +1,7 @@
 // From the limits of a stage to the sets of a max join. The tables are parts of one buffer. For a
 // min join the caller lends the limits exchanged.
 pub mod joins;
+pub mod search;
 
 // The first two conditions that join.
 pub enum Pair {
