@@ -1,14 +1,15 @@
 -- Tests of every cell, and the rules that they decide.
-use Prim.Native.Nat.{ℕ, _+_, _<_, max}
-use mathlib.Core.Path.{_≡_, refl, sym, _∙_, ap₂}
+use Prim.Native.Nat.{ℕ, zero, suc, _+_, _<_, max}
+use mathlib.Core.Path.{_≡_, refl, sym, _∙_, ap, ap₂}
 use mathlib.Core.Bool.{Bool, true, false}
 use mathlib.Core.List.{List}
-use native.Mathlib.Nat.{le-trans}
+use native.Mathlib.Nat.{le-trans, max-comm}
 use native.Mathlib.Omega.{arith}
 use lib.Dec.{T, leb, leb→le, le→leb}
 use Rattle.rules.specs.Bytes.{at, all}
-use Rattle.rules.specs.Cell.{cells, singleton, leastOver, greatestOver}
+use Rattle.rules.specs.Cell.{Positive, cells, singleton, insert, leastOver, greatestOver}
 use Rattle.rules.specs.Stage.{fits, merged}
+use Rattle.laws.proofs.LineLaws.{over-insert}
 use Rattle.laws.proofs.OverLaws.{max-bound, min-bound, over-self, over-least, over-blind}
 use Rattle.laws.proofs.TableLaws.{all-at, all-of}
 use Rattle.tables.specs.Part.{part, Shaped}
@@ -101,3 +102,21 @@ module _ (w : List ℕ) {ks : List ℕ} {i : ℕ} (low keep grow : ℕ) {stp crd
       → false ≡ admits ks i (part w low (cells ks)) (part w keep (cells ks)) (part w grow (cells ks))
   unfolding admits
   add-failed k h e = scan-failed add-same k h e
+
+-- the test of an addition decides whether the grown set joins
+pub admits-joins : (ks : List ℕ) (i : ℕ) (l u keep grow : List ℕ) (s t : ℕ) → Positive ks → keep ≡ leastOver ks t u → grow ≡ leastOver ks s u → admits ks i l keep grow ≡ joins ks l u (insert s i) t
+unfolding admits joins
+admits-joins ks i l u keep grow s t p ek eg =
+    ap₂ (admits ks i l) ek eg ∙ inserted
+  where
+    inserted : admits ks i l (leastOver ks t u) (leastOver ks s u) ≡ joins ks l u (insert s i) t
+    inserted = ap (λ (g : List ℕ). all (cells ks) (λ c. leb (at l c) (max (at (leastOver ks t u) c) (at g c)))) (over-insert min-bound ks u s i p)
+
+all-same : (n : ℕ) (p q : ℕ → Bool) → ((k : ℕ) → p k ≡ q k) → all n p ≡ all n q
+all-same zero p q h = refl
+all-same (suc n) p q h = ap₂ _&&_ (all-same n p q h) (h n)
+
+-- the sets of a join in either order
+pub joins-turn : (ks l u : List ℕ) (s t : ℕ) → joins ks l u s t ≡ joins ks l u t s
+unfolding joins
+joins-turn ks l u s t = all-same (cells ks) _ _ (λ c. ap (leb (at l c)) (max-comm (at (leastOver ks t u) c) (at (leastOver ks s u) c)))

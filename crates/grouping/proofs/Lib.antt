@@ -2,3 +2,5 @@
 pub mod LeastLaws
 pub mod JoiningLaws
 pub mod SearchLaws
+pub mod KeptLaws
+pub mod GrowLaws

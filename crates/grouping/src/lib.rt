@@ -1,5 +1,6 @@
 // From the limits of a stage to the sets of a max join. The tables are parts of one buffer. For a
 // min join the caller lends the limits exchanged.
+pub mod growing;
 pub mod joins;
 pub mod search;
 

@@ -77,7 +77,7 @@ pub laid-then : {w : List ℕ} {a : ℕ} {t : List ℕ} {n : ℕ} {w′ u w″ :
 laid-then l m = record { len = m .len ∙ l .len; here = m .here; before = λ j h. m .before j h ∙ l .before j h; after = λ j h. m .after j h ∙ l .after j h }
 
 -- two buffers with the same bytes at a part hold the same table there
-part-same : (w w′ : List ℕ) (a n : ℕ) → a + n ≤ length w → length w′ ≡ length w → ((k : ℕ) → k < n → at w′ (a + k) ≡ at w (a + k)) → part w′ a n ≡ part w a n
+pub part-same : (w w′ : List ℕ) (a n : ℕ) → a + n ≤ length w → length w′ ≡ length w → ((k : ℕ) → k < n → at w′ (a + k) ≡ at w (a + k)) → part w′ a n ≡ part w a n
 part-same w w′ a n h e eq =
     let l : length (part w a n) ≡ n = part-length w a n h in
     let l′ : length (part w′ a n) ≡ n = part-length w′ a n (omega arith) in

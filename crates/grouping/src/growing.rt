@@ -1,0 +1,123 @@
+// Two sets that grow. The table at a holds the least upper grades over t, the table at b those over
+// s, at every step.
+use crate::Sets;
+use crate::joins;
+use places::sets;
+use tables::extremes;
+use tables::fill;
+ghost use Prim.Native.Nat.{_<_};
+ghost use mathlib.Core.Path.{_≡_};
+ghost use mathlib.Core.Bool.{false};
+ghost use Rattle.rules.specs.Bytes.{numbersFrom};
+ghost use Rattle.rules.specs.Cell.{cells, present, has, singleton, leastOver};
+ghost use Rattle.tables.specs.Part.{part, Laid, Shaped, Two};
+ghost use Rattle.rules.specs.Stage.{addCondition, grow};
+ghost use Rattle.grouping.specs.Growing.{setsOf, Space, Started, Tried, Grows, inOrder};
+
+// The table at `from` taken over condition i, at `to`.
+fn least_over(w: &mut [u8], ks: [u8; 8], i: usize, from: usize, to: usize)
+    requires { ⌜ (i < 8) × Shaped ks × Two (now w) from to (cells ks) ⌝ }
+    ensures { λ _. ⌜ Laid (now (w .entry)) to (leastOver ks (singleton i) (part (now (w .entry)) from (cells ks))) (cells ks) (now (w .exit)) ⌝ }
+{
+    let n = places::cell_count(ks);
+    fill::copy(w, from, to, n);
+    extremes::over_one(w, false, ks, i, to);
+}
+
+// The tables of the sets of i alone and of j alone.
+pub fn start_sets(w: &mut [u8], ks: [u8; 8], i: usize, j: usize, high: usize, a: usize, b: usize)
+    requires { ⌜ (i < 8) × (j < 8) × Space (now w) ks high a b ⌝ }
+    ensures { λ _. ⌜ Started (now (w .entry)) ks i j high a b (now (w .exit)) ⌝ }
+{
+    least_over(w, ks, j, high, a);
+    least_over(w, ks, i, high, b);
+}
+
+// Adds condition i to the set whose table is at `grow`, if that may be: whether it was.
+fn try_add(w: &mut [u8], ks: [u8; 8], i: usize, low: usize, keep: usize, grow: usize) -> bool
+    requires { ⌜ (i < 8) × Space (now w) ks low keep grow ⌝ }
+    ensures { λ r. ⌜ Tried (now (w .entry)) ks i low keep grow r (now (w .exit)) ⌝ }
+{
+    if joins::may_add(w, ks, i, low, keep, grow) {
+        extremes::over_one(w, false, ks, i, grow);
+        return true;
+    }
+    false
+}
+
+// Adds condition i to s, failing that to t, failing that to neither.
+fn add_in_order(
+    w: &mut [u8],
+    ks: [u8; 8],
+    found: Sets,
+    i: usize,
+    low: usize,
+    a: usize,
+    b: usize,
+) -> Sets
+    requires { ⌜ (i < 8) × Space (now w) ks low a b × (has (found .s) i ≡ false) × (has (found .t) i ≡ false) ⌝ }
+    ensures { λ r. ⌜ Grows (now (w .entry)) ks low a b (found .s) (found .t) (inOrder ks i (found .s) (found .t)) (r .s) (r .t) (now (w .exit)) ⌝ }
+{
+    let s = found.s;
+    let t = found.t;
+    if try_add(w, ks, i, low, a, b) {
+        return Sets {
+            s: sets::insert(s, i),
+            t,
+        };
+    }
+    if try_add(w, ks, i, low, b, a) {
+        return Sets {
+            s,
+            t: sets::insert(t, i),
+        };
+    }
+    found
+}
+
+// Adds condition i, unless it is not there or in a set already: first to the set with fewer members,
+// s when equal.
+pub fn add_condition(
+    w: &mut [u8],
+    ks: [u8; 8],
+    found: Sets,
+    i: usize,
+    low: usize,
+    a: usize,
+    b: usize,
+) -> Sets
+    requires { ⌜ (i < 8) × Space (now w) ks low a b ⌝ }
+    ensures { λ r. ⌜ Grows (now (w .entry)) ks low a b (found .s) (found .t) (λ js. addCondition (present ks) js i (setsOf found)) (r .s) (r .t) (now (w .exit)) ⌝ }
+{
+    let s = found.s;
+    let t = found.t;
+    if ks[i] < 2 {
+        return found;
+    }
+    if places::has_member(s, i) {
+        return found;
+    }
+    if places::has_member(t, i) {
+        return found;
+    }
+    if sets::count(s) <= sets::count(t) {
+        return add_in_order(w, ks, found, i, low, a, b);
+    }
+    let turned = add_in_order(w, ks, Sets { s: t, t: s }, i, low, b, a);
+    Sets {
+        s: turned.t,
+        t: turned.s,
+    }
+}
+
+// Adds each condition in turn.
+pub fn grow(w: &mut [u8], ks: [u8; 8], found: Sets, low: usize, a: usize, b: usize) -> Sets
+    requires { ⌜ Space (now w) ks low a b ⌝ }
+    ensures { λ r. ⌜ Grows (now (w .entry)) ks low a b (found .s) (found .t) (λ js. grow (present ks) js (numbersFrom 0 8) (setsOf found)) (r .s) (r .t) (now (w .exit)) ⌝ }
+{
+    let mut grown = found;
+    for i in 0..8 {
+        grown = add_condition(w, ks, grown, i, low, a, b);
+    }
+    grown
+}
