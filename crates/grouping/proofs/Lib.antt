@@ -4,3 +4,5 @@ pub mod JoiningLaws
 pub mod SearchLaws
 pub mod KeptLaws
 pub mod GrowLaws
+pub mod KeepsLaws
+pub mod GroupedLaws

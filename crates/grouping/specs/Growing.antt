@@ -11,7 +11,7 @@ use Rattle.tables.specs.Part.{part, Laid, Shaped, Two}
 use Rattle.grouping.specs.Joining.{joins, joinsAt, admits}
 use Rattle.grouping.specs.declared.Sets.{Sets}
 use Rattle.grouping.specs.declared.Found.{Found}
-use Rattle.grouping.specs.declared.Found.the-variants.{Nothing}
+use Rattle.grouping.specs.declared.Found.the-variants.{Nothing, Sets as Some}
 
 abbrev pub setsOf : Sets → Grouping
 setsOf p = sets (p .s) (p .t)

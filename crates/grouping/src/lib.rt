@@ -4,6 +4,10 @@ pub mod growing;
 pub mod joins;
 pub mod search;
 
+ghost use mathlib.Core.Path.{_≡_};
+ghost use Rattle.rules.specs.Stage.{difference, keepsMax};
+ghost use Rattle.grouping.specs.Growing.{Space, Grouped};
+
 // The first two conditions that join.
 pub enum Pair {
     Nothing,
@@ -18,4 +22,42 @@ pub struct Sets {
 pub enum Found {
     Nothing,
     Sets(Sets),
+}
+
+// The grouping under the limits at low and at high, and, where sets are found, the least upper
+// grades over t at a and over s at b.
+pub fn group(w: &mut [u8], ks: [u8; 8], low: usize, high: usize, a: usize, b: usize) -> Found
+    requires { ⌜ Space (now w) ks low a b × Space (now w) ks high a b ⌝ }
+    ensures { λ r. ⌜ Grouped (now (w .entry)) ks low high a b r (now (w .exit)) ⌝ }
+{
+    let Pair::Found(i, j) = search::first_pair(w, ks, low, high) else {
+        return Found::Nothing;
+    };
+    growing::start_sets(w, ks, i, j, high, a, b);
+    let first = Sets {
+        s: places::sets::singleton(i),
+        t: places::sets::singleton(j),
+    };
+    Found::Sets(growing::grow(w, ks, first, low, a, b))
+}
+
+fn difference(a: usize, b: usize) -> usize
+    ensures { λ r. ⌜ r ≡ difference a b ⌝ }
+{
+    if a < b { b - a } else { a - b }
+}
+
+// Whether the max grouping is taken before the min grouping: more conditions, then the smaller
+// difference, then max.
+pub fn keeps_max(max: Sets, min: Sets) -> bool
+    ensures { λ r. ⌜ r ≡ keepsMax (max .s) (max .t) (min .s) (min .t) ⌝ }
+{
+    let s = places::sets::count(max.s);
+    let t = places::sets::count(max.t);
+    let u = places::sets::count(min.s);
+    let v = places::sets::count(min.t);
+    if s + t == u + v {
+        return difference(s, t) <= difference(u, v);
+    }
+    u + v < s + t
 }

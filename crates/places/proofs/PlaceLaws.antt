@@ -45,6 +45,10 @@ members-more n i found rest h =
     let e : n - i ≡ suc (n - (i + 1)) = omega arith in
     ap (λ (f : ℕ). found + members f rest) e ∙ sym (add-assoc found (rest % 2) (members (n - (i + 1)) (rest / 2)))
 
+pub members-le : (n s : ℕ) → members n s ≤ n
+members-le zero s = omega arith
+members-le (suc n) s = let h : s % 2 < 2 = mod-lt s (omega arith) in omega (arith, members-le n (s / 2))
+
 -- one place more of a count
 pub width-more : (ks : List ℕ) (i : ℕ) → i < length ks → width (drop i ks) ≡ pick (ltb 1 (getD ks i 0)) 1 0 + width (drop (i + 1) ks)
 width-more ks i h = rw (add-one i) (ap width (drop-cons ks i 0 h))
