@@ -24,10 +24,10 @@ use Rattle.shape.specs.Shapes.{cardsOf, placesOf, isSound}
 use Rattle.tables.specs.Part.{part, Laid}
 use Rattle.tables.proofs.PartLaws.{part-at}
 use Rattle.join.specs.declared.JoinAnswer.the-variants as answers
-use Rattle.join.specs.Parts.{Below, Holds, Placed, Work, Begun, Opened, Existing}
+use Rattle.join.specs.Parts.{Below, Holds, Placed, Exchanging, Exchanged, Work, Begun, Opened, Uppers, Existing}
 use Rattle.join.specs.Calls.{joinAnswer, limitsOf, Ready, Rows}
 use Rattle.join.proofs.HoldLaws.{holds-at, laid-within, stays-below}
-use Rattle.join.proofs.StepLaws.{grades-both}
+use Rattle.join.proofs.StepLaws.{before, grades-both}
 use Rattle.join.proofs.RowLaws.{passes, refused-limits, rows-by}
 use Rattle.join.proofs.PromiseLaws.{table}
 
@@ -111,35 +111,53 @@ module _ {shape : Shape} {ks lower upper w : List ℕ} {n shortest : ℕ} (p : R
           placed : Placed v₂ 0 lent n
           placed = record { lows = stays-below (laid-within high) (omega arith) (loaded low); highs = holds-at (omega arith) (loaded high) }
 
-          pub exists-ready : Work v₂ ks n × (1 ≤ shape .m) × Below v₂ 0 (2 * n) (shape .m)
-          exists-ready =
+          pub exchange-ready : Exchanging v₂ (shape .m) 0 (2 * n) n
+          exchange-ready =
               let x = lent-table in
               let g = x .grades in
               let r = p .room in
               let i = low .len in
               let j = high .len in
-              let k = size in (
-                work-for (p .places) (p .count) x (omega arith),
-                omega arith,
-                grades-both 0 n n (omega arith) (holds-below (placed .lows) (λ c lt. le-trans (x .ordered c (omega arith)) (x .top c (omega arith))))
-                    (holds-below (loaded high) (λ c lt. x .top c (omega arith))),
-              )
+              let k = size in
+              let f = small in
+              record {
+                some = omega arith;
+                parts = before 0 (2 * n) (2 * n) (2 * n) (omega arith) (omega arith);
+                grades =
+                    grades-both 0 n n (omega arith) (holds-below (placed .lows) (λ c lt. le-trans (x .ordered c (omega arith)) (x .top c (omega arith))))
+                    (holds-below (loaded high) (λ c lt. x .top c (omega arith)));
+              }
 
-          module _ (d : setsSound ks s t ≡ true) {r : Bool} {w′ : List ℕ} (x : Existing gate ks (shape .m) s t n v₂ r w′) where
-            same-len : length w′ ≡ length w
-            same-len = x .kept .len ∙ high .len ∙ low .len
+          module _ {v₃ : List ℕ} (exchanged : Exchanged gate v₂ (shape .m) 0 (2 * n) n v₃) where
+            pub uppers-ready : Work v₃ ks n
+            uppers-ready =
+                let r = p .room in
+                let i = low .len in
+                let j = high .len in
+                let k = exchanged .kept .len in
+                work-for (p .places) (p .count) lent-table (omega arith)
 
-            found : Existing gate (placesOf shape) (shape .m) s t n v₂ r w′
-            found = subst (λ (k : List ℕ). Existing gate k (shape .m) s t n v₂ r w′) (p .places) x
+            module _ (d : setsSound ks s t ≡ true) {w′ : List ℕ} (both : Uppers ks s t n v₃ w′) where
+              same-len : length w′ ≡ length w
+              same-len = both .kept .len ∙ exchanged .kept .len ∙ high .len ∙ low .len
 
-            pub join-stop : r ≡ false → Rows shape lower upper gate s t shortest n w (answers.Refused NoJoin) w′
-            join-stop e =
-                stop (λ lengths room. rows-of lengths true true true true false room a (le-leb n shortest b) c d (sym (found .answer lent placed) ∙ e)) same-len
+              pub exists-ready : 8 * n ≤ length w′
+              exists-ready = let f = small in let r = p .room in let e = same-len in omega arith
 
-            pub rows-pass : r ≡ true → Rows shape lower upper gate s t shortest n w answers.Limits w′
-            rows-pass e =
-                record {
-                  answer = λ lengths room. ap joinAnswer (sym (rows-of lengths true true true true true room a (le-leb n shortest b) c d (sym (found .answer lent placed) ∙ e)));
-                  opened = λ h. found .opened lent placed;
-                  len = same-len;
-                }
+              joined : Opened gate (placesOf shape) (shape .m) s t lent n w′
+              joined = subst (λ (k : List ℕ). Uppers k s t n v₃ w′) (p .places) both .opened gate (shape .m) lent (exchanged .limits (placesOf shape) lent size placed)
+
+              module _ {r : Bool} (x : Existing n w′ r) where
+                found : {e : Bool} → r ≡ e → joinExists gate (placesOf shape) (shape .m) s t lent ≡ e
+                found e = sym (x .answer gate (placesOf shape) (shape .m) s t lent size joined) ∙ e
+
+                pub join-stop : r ≡ false → Rows shape lower upper gate s t shortest n w (answers.Refused NoJoin) w′
+                join-stop e = stop (λ lengths room. rows-of lengths true true true true false room a (le-leb n shortest b) c d (found e)) same-len
+
+                pub rows-pass : r ≡ true → Rows shape lower upper gate s t shortest n w answers.Limits w′
+                rows-pass e =
+                    record {
+                      answer = λ lengths room. ap joinAnswer (sym (rows-of lengths true true true true true room a (le-leb n shortest b) c d (found e)));
+                      opened = λ h. joined;
+                      len = same-len;
+                    }

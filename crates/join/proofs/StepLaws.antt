@@ -10,7 +10,6 @@ use lib.ListN.{length}
 use Rattle.rules.specs.declared.Gate.{Gate}
 use Rattle.rules.specs.Bytes.{at, tabulate, all}
 use Rattle.rules.specs.Cell.{cells, over, greatestOver, leastOver}
-use Rattle.rules.specs.Limits.{Limits}
 use Rattle.rules.specs.Join.{above, uA, uB, exchangeFor}
 use Rattle.laws.proofs.TableLaws.{at-tabulate, tabulate-same}
 use Rattle.laws.proofs.TestLaws.{by-order}
@@ -19,7 +18,7 @@ use Rattle.laws.proofs.OverLaws.{Bound, max-bound, min-bound, over-bound}
 use Rattle.laws.proofs.LineLaws.{over-same}
 use Rattle.tables.specs.Part.{part, Laid, Apart}
 use Rattle.tables.proofs.PartLaws.{part-at}
-use Rattle.join.specs.Parts.{turned, Below, Holds, Placed, Within, Exchanging, Exchanged, Work, Opened, Existing, First, Second}
+use Rattle.join.specs.Parts.{turned, Below, Holds, Within, Exchanging, Exchanged, Work, Uppers, Existing, First, Second}
 use Rattle.join.proofs.HoldLaws.{holds-at, laid-within, within-then, stays-below, stays-behind}
 use Rattle.join.proofs.TurnLaws.{turned-holds}
 
@@ -75,57 +74,48 @@ pub grades-both : {w : List ℕ} {m : ℕ} (a b n : ℕ) → a + n ≡ b → Bel
 grades-both {w} {m} a b n e p q =
     record { grade = λ c lt. by-order n c (λ le. let i : b + (c - n) ≡ a + c = omega arith in subst (λ (j : ℕ). at w j ≤ m - 1) i (q .grade (c - n) (omega arith))) (λ less. p .grade c less) }
 
+-- both blocks' upper limits
+module _ {w ks : List ℕ} {n : ℕ} (work : Work w ks n) where
+  pub uppers-first : Apart w (3 * n) n (4 * n) n
+  uppers-first = let r = work .room in before (3 * n) n (4 * n) n (omega arith) (omega arith)
+
+  module _ (s t : ℕ) {v : List ℕ} (a : Laid w (4 * n) (leastOver ks t (part w (3 * n) n)) n v) where
+    pub uppers-second : Apart v (3 * n) n (5 * n) n
+    uppers-second = let r = work .room in let k = a .len in before (3 * n) n (5 * n) n (omega arith) (omega arith)
+
+    pub uppers : {w′ : List ℕ} → Laid v (5 * n) (leastOver ks s (part v (3 * n) n)) n w′ → Uppers ks s t n w w′
+    uppers b =
+        record {
+          opened = λ gate m l y.
+              let u = holds-at {b = 3 * n} (omega arith) (y .highs) in
+              record {
+                begun =
+                    record {
+                      lows = stays-below (laid-within b) (omega arith) (stays-below (laid-within a) (omega arith) (y .lows));
+                      seconds = over-holds min-bound ks s (work .count) b (stays-below (laid-within a) (omega arith) u);
+                    };
+                firsts = stays-below (laid-within b) (omega arith) (over-holds min-bound ks t (work .count) a u);
+              };
+          kept = within-then (4 * n) (6 * n) (laid-within a) (laid-within b) (omega arith) (omega arith) (omega arith) (omega arith);
+        }
+
+-- whether the join exists
+pub existing : {w : List ℕ} {n : ℕ} (r : Bool) → r ≡ all n (λ c. leb (at (part w (2 * n) n) c) (max (at (part w (4 * n) n) c) (at (part w (5 * n) n) c))) → Existing n w r
+existing {w} {n} r e =
+    record {
+      answer = λ gate ks m s t l size o.
+          let x = exchangeFor gate ks m l in
+          e
+          ∙ all-same n _ _
+          (λ c h.
+          ap₂ leb (part-at w (2 * n) n c h ∙ o .begun .lows .here c h)
+          (ap₂ max (part-at w (4 * n) n c h ∙ o .firsts .here c h) (part-at w (5 * n) n c h ∙ o .begun .seconds .here c h)))
+          ∙ ap (λ (i : ℕ). all i (λ c. leb (at (x .lower) c) (max (at (uA ks s t (x .lower) (x .upper)) c) (at (uB ks s t (x .lower) (x .upper)) c)))) size;
+    }
+
 module _ (gate : Gate) {w ks : List ℕ} {m n : ℕ} (work : Work w ks n) (some : 1 ≤ m) where
   room : 8 * n ≤ length w
   room = work .room
-
-  -- whether the join exists
-  pub exists-exchange : Below w 0 (2 * n) m → Exchanging w m 0 (2 * n) n
-  exists-exchange b = let r = room in record { some = some; parts = before 0 (2 * n) (2 * n) (2 * n) (omega arith) (omega arith); grades = b }
-
-  module _ {v₁ : List ℕ} (x : Exchanged gate w m 0 (2 * n) n v₁) where
-    pub exists-first : Apart v₁ (3 * n) n (4 * n) n
-    exists-first = let r = room in let k = x .kept .len in before (3 * n) n (4 * n) n (omega arith) (omega arith)
-
-    module _ (s t : ℕ) {v₂ : List ℕ} (a : Laid v₁ (4 * n) (leastOver ks t (part v₁ (3 * n) n)) n v₂) where
-      pub exists-second : Apart v₂ (3 * n) n (5 * n) n
-      exists-second = let r = room in let k = x .kept .len in let i = a .len in before (3 * n) n (5 * n) n (omega arith) (omega arith)
-
-      module _ {w′ : List ℕ} (b : Laid v₂ (5 * n) (leastOver ks s (part v₂ (3 * n) n)) n w′) where
-        opened : (l : Limits) → Placed w 0 l n → Opened gate ks m s t l n w′
-        opened l p =
-            let y = x .limits ks l (work .count) p in
-            let u = holds-at {b = 3 * n} (omega arith) (y .highs) in
-            record {
-              begun =
-                  record {
-                    lows = stays-below (laid-within b) (omega arith) (stays-below (laid-within a) (omega arith) (y .lows));
-                    seconds = over-holds min-bound ks s (work .count) b (stays-below (laid-within a) (omega arith) u);
-                  };
-              firsts = stays-below (laid-within b) (omega arith) (over-holds min-bound ks t (work .count) a u);
-            }
-
-        pub existing : (r : Bool) → r ≡ all n (λ c. leb (at (part w′ (2 * n) n) c) (max (at (part w′ (4 * n) n) c) (at (part w′ (5 * n) n) c))) → Existing gate ks m s t n w r w′
-        existing r e =
-            record {
-              answer = λ l p.
-                  let o = opened l p in
-                  e
-                  ∙ all-same n _ _
-                  (λ c h.
-                  ap₂ leb (part-at w′ (2 * n) n c h ∙ o .begun .lows .here c h)
-                  (ap₂ max (part-at w′ (4 * n) n c h ∙ o .firsts .here c h) (part-at w′ (5 * n) n c h ∙ o .begun .seconds .here c h)))
-                  ∙ ap (λ (i : ℕ). all i (test l)) (work .count);
-              opened = opened;
-              kept =
-                  within-then (2 * n) (6 * n) (x .kept) (within-then (4 * n) (6 * n) (laid-within a) (laid-within b) (omega arith) (omega arith) (omega arith) (omega arith)) (omega arith) (omega arith)
-                  (omega arith) (omega arith);
-            }
-          where
-            test : Limits → ℕ → Bool
-            test l c =
-                let y = exchangeFor gate ks m l in
-                leb (at (y .lower) c) (max (at (uA ks s t (y .lower) (y .upper)) c) (at (uB ks s t (y .lower) (y .upper)) c))
 
   -- the first block's limits
   pub first-low : Apart w (2 * n) n (3 * n) n

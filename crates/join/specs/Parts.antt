@@ -69,11 +69,14 @@ module _ (gate : Gate) (ks : List ℕ) (m s t : ℕ) (l : Limits) (n : ℕ) wher
     pub begun : Begun w
     pub firsts : Holds w (4 * n) (uA ks s t (exchangeFor gate ks m l .lower) (exchangeFor gate ks m l .upper)) n
 
--- whatever limits stood in parts 0 and 1: the answer is whether their join exists
-pub record Existing (gate : Gate) (ks : List ℕ) (m s t n : ℕ) (w : List ℕ) (r : Bool) (w′ : List ℕ) : Type 0 where
-  pub answer : (l : Limits) → Placed w 0 l n → r ≡ joinExists gate ks m s t l
-  pub opened : (l : Limits) → Placed w 0 l n → Opened gate ks m s t l n w′
-  pub kept : Within w (2 * n) (6 * n) w′
+-- whatever limits stood in parts 2 and 3, exchanged: their join is open
+pub record Uppers (ks : List ℕ) (s t n : ℕ) (w w′ : List ℕ) : Type 0 where
+  pub opened : (gate : Gate) (m : ℕ) (l : Limits) → Placed w (2 * n) (exchangeFor gate ks m l) n → Opened gate ks m s t l n w′
+  pub kept : Within w (4 * n) (6 * n) w′
+
+-- whatever join is open: the answer is whether it exists
+pub record Existing (n : ℕ) (w : List ℕ) (r : Bool) : Type 0 where
+  pub answer : (gate : Gate) (ks : List ℕ) (m s t : ℕ) (l : Limits) → n ≡ cells ks → Opened gate ks m s t l n w → r ≡ joinExists gate ks m s t l
 
 -- whatever join was opened: the limits of its first block
 pub record First (gate : Gate) (ks : List ℕ) (m t n : ℕ) (w w′ : List ℕ) : Type 0 where

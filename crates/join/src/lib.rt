@@ -54,7 +54,9 @@ fn rows(
     }
     fill::load(w, lower, 0, n);
     fill::load(w, upper, n, n);
-    if !parts::exists(w, gate, ks, shape.m, s, t, n) {
+    parts::exchange(w, gate, shape.m, 0, 2 * n, n);
+    parts::uppers(w, ks, s, t, n);
+    if !parts::exists(w, n) {
         return JoinAnswer::Refused(Refusal::NoJoin);
     }
     JoinAnswer::Limits

@@ -7,7 +7,7 @@ ghost use Rattle.rules.specs.Bytes.{at, tabulate};
 ghost use Rattle.rules.specs.Cell.{cells, greatestOver, leastOver};
 ghost use Rattle.rules.specs.Join.{above};
 ghost use Rattle.tables.specs.Part.{part, Laid, Two, Shaped};
-ghost use Rattle.join.specs.Parts.{side, turned, Below, Exchanging, Exchanged, Work, Existing, First, Second, Blinded, Judged};
+ghost use Rattle.join.specs.Parts.{side, turned, Below, Exchanging, Exchanged, Work, Uppers, Existing, First, Second, Blinded, Judged};
 use rules::Gate;
 use tables::extremes;
 use tables::fill;
@@ -71,19 +71,25 @@ pub fn greatest_above(
     extremes::over_set(w, true, ks, set, to);
 }
 
-// Whether the join exists under the limits in parts 0 and 1. Parts 2 and 3 become these limits,
-// exchanged, part 4 the first block's upper limits, part 5 the second's.
-pub fn exists(w: &mut [u8], gate: Gate, ks: [u8; 8], m: u8, s: u8, t: u8, n: usize) -> bool
-    requires { ⌜ Work (now w) ks n × (1 ≤ m) × Below (now w) 0 (2 * n) m ⌝ }
-    ensures { λ r. ⌜ Existing gate ks m s t n (now (w .entry)) r (now (w .exit)) ⌝ }
+// From limits in parts 2 and 3, exchanged: part 4 becomes the first block's upper limits, part 5 the
+// second's. The join is then open.
+pub fn uppers(w: &mut [u8], ks: [u8; 8], s: u8, t: u8, n: usize)
+    requires { ⌜ Work (now w) ks n ⌝ }
+    ensures { λ _. ⌜ Uppers ks s t n (now (w .entry)) (now (w .exit)) ⌝ }
 {
-    exchange(w, gate, m, 0, 2 * n, n);
     least(w, ks, t, 3 * n, 4 * n, n);
     least(w, ks, s, 3 * n, 5 * n, n);
+}
+
+// Whether an open join exists. It stops at the first cell that refuses.
+pub fn exists(w: &[u8], n: usize) -> bool
+    requires { ⌜ 8 * n ≤ length (now w) ⌝ }
+    ensures { λ r. ⌜ Existing n (now (w .entry)) r ⌝ }
+{
     tests::within_either(w, 2 * n, 4 * n, 5 * n, n)
 }
 
-// After `exists`: parts 6 and 7 become the first block's limits, part 3 is lost.
+// Of an open join: parts 6 and 7 become the first block's limits, part 3 is lost.
 pub fn first_limits(w: &mut [u8], gate: Gate, ks: [u8; 8], m: u8, t: u8, n: usize)
     requires { ⌜ Work (now w) ks n × (1 ≤ m) × Below (now w) (2 * n) n m × Below (now w) (4 * n) n m ⌝ }
     ensures { λ _. ⌜ First gate ks m t n (now (w .entry)) (now (w .exit)) ⌝ }
@@ -92,7 +98,7 @@ pub fn first_limits(w: &mut [u8], gate: Gate, ks: [u8; 8], m: u8, t: u8, n: usiz
     exchange(w, gate, m, 3 * n, 6 * n, n);
 }
 
-// After `exists`, with the first block's grades in part 1: parts 6 and 7 become the second block's
+// Of an open join, with the first block's grades in part 1: parts 6 and 7 become the second block's
 // limits, parts 3 and 4 are lost.
 pub fn second_limits(w: &mut [u8], gate: Gate, ks: [u8; 8], m: u8, s: u8, n: usize)
     requires { ⌜ Work (now w) ks n × (1 ≤ m) × Below (now w) n n m × Below (now w) (2 * n) n m × Below (now w) (5 * n) n m ⌝ }
