@@ -14,11 +14,13 @@ pub enum Pair {
     Found(usize, usize),
 }
 
+// The sets of a join.
 pub struct Sets {
     pub s: u8,
     pub t: u8,
 }
 
+// What a search for a join ends with.
 pub enum Found {
     Nothing,
     Sets(Sets),
@@ -41,6 +43,7 @@ pub fn group(w: &mut [u8], ks: [u8; 8], low: usize, high: usize, a: usize, b: us
     Found::Sets(growing::grow(w, ks, first, low, a, b))
 }
 
+// How far apart two counts are.
 fn difference(a: usize, b: usize) -> usize
     ensures { λ r. ⌜ r ≡ difference a b ⌝ }
 {

@@ -1,4 +1,5 @@
 -- `places::has_member` meets its contract.
+-- Assumes nothing.
 use mathlib.Core.Path.{sym}
 use lib.ListN.{set}
 use Rattle.laws.proofs.NumberLaws.{has-bit}
