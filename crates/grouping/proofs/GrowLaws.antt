@@ -78,15 +78,15 @@ turn-try is js s t other e = go (js s t) ∙ ap (λ (b : Bool). cond b (sets t s
     go false = refl
 
 -- tried in t, then in s
-abbrev outOfOrder : List ℕ → ℕ → ℕ → ℕ → (ℕ → ℕ → Bool) → Grouping
-outOfOrder ks i s t js = tryJoin (present ks) js s (insert t i) (tryJoin (present ks) js (insert s i) t (sets s t))
+abbrev otherOrder : List ℕ → ℕ → ℕ → ℕ → (ℕ → ℕ → Bool) → Grouping
+otherOrder ks i s t js = tryJoin (present ks) js s (insert t i) (tryJoin (present ks) js (insert s i) t (sets s t))
 
-turn-order : (ks : List ℕ) (i s t : ℕ) (js : ℕ → ℕ → Bool) → ((x y : ℕ) → js x y ≡ js y x) → turn (inOrder ks i t s js) ≡ outOfOrder ks i s t js
+turn-order : (ks : List ℕ) (i s t : ℕ) (js : ℕ → ℕ → Bool) → ((x y : ℕ) → js x y ≡ js y x) → turn (inOrder ks i t s js) ≡ otherOrder ks i s t js
 turn-order ks i s t js e =
     turn-try (present ks) js (insert t i) s (tryJoin (present ks) js t (insert s i) (sets t s)) (e (insert t i) s)
     ∙ ap (tryJoin (present ks) js s (insert t i)) (turn-try (present ks) js t (insert s i) (sets t s) (e t (insert s i)))
 
-turn-grows : {w ks : List ℕ} (i : ℕ) {low a b s t s′ t′ : ℕ} {w′ : List ℕ} → Grows w ks low b a t s (inOrder ks i t s) t′ s′ w′ → Grows w ks low a b s t (outOfOrder ks i s t) s′ t′ w′
+turn-grows : {w ks : List ℕ} (i : ℕ) {low a b s t s′ t′ : ℕ} {w′ : List ℕ} → Grows w ks low b a t s (inOrder ks i t s) t′ s′ w′ → Grows w ks low a b s t (otherOrder ks i s t) s′ t′ w′
 turn-grows {w} {ks} i {low} {a} {b} {s} {t} g =
     record {
       kept = kept-turn (g .kept);
@@ -95,17 +95,24 @@ turn-grows {w} {ks} i {low} {a} {b} {s} {t} g =
     }
 
 -- what the sets become, said in another way
-grows-as : {w ks : List ℕ} {low a b s t : ℕ} {to to′ : (ℕ → ℕ → Bool) → Grouping} {s′ t′ : ℕ} {w′ : List ℕ} → ((js : ℕ → ℕ → Bool) → to js ≡ to′ js) → Grows w ks low a b s t to s′ t′ w′ → Grows w ks low a b s t to′ s′ t′ w′
+grows-as : {w ks : List ℕ} {low a b s t : ℕ} {to to′ : (ℕ → ℕ → Bool) → Grouping} {s′ t′ : ℕ} {w′ : List ℕ}
+    → ((js : ℕ → ℕ → Bool) → to js ≡ to′ js) → Grows w ks low a b s t to s′ t′ w′ → Grows w ks low a b s t to′ s′ t′ w′
 grows-as e g = record { kept = g .kept; is = λ u h. g .is u h ∙ e _; held = g .held }
 
 grows-none : (w ks : List ℕ) (low a b s t : ℕ) → Grows w ks low a b s t (λ js. sets s t) s t w
 grows-none w ks low a b s t = record { kept = kept-self w a b (cells ks); is = λ u h. refl; held = λ u h. h }
 
--- a condition that is not there, or in a set already, is not added
+-- condition i is there, and in neither set
+pub record Open (ks : List ℕ) (i s t : ℕ) : Type 0 where
+  pub there : present ks i ≡ true
+  pub first : has s i ≡ false
+  pub second : has t i ≡ false
+
 module _ (w ks : List ℕ) (low a b s t i : ℕ) where
   abbrev Next : ℕ → ℕ → List ℕ → Type 0
   Next s′ t′ w′ = Grows w ks low a b s t (λ js. addCondition (present ks) js i (sets s t)) s′ t′ w′
 
+  -- otherwise it is not added
   closed : present ks i && (not (has s i) && not (has t i)) ≡ false → Next s t w
   closed e = grows-as (λ js. rw e) (grows-none w ks low a b s t)
 
@@ -118,12 +125,12 @@ module _ (w ks : List ℕ) (low a b s t i : ℕ) where
   pub in-second : present ks i ≡ true → has s i ≡ false → has t i ≡ true → Next s t w
   in-second e f g = closed (rw (e, f, g))
 
-  module _ {s′ t′ : ℕ} {w′ : List ℕ} (e : present ks i ≡ true) (f : has s i ≡ false) (g : has t i ≡ false) where
+  module _ {s′ t′ : ℕ} {w′ : List ℕ} (o : Open ks i s t) where
     pub first-smaller : leb (count s) (count t) ≡ true → Grows w ks low a b s t (inOrder ks i s t) s′ t′ w′ → Next s′ t′ w′
-    first-smaller h r = grows-as (λ js. rw (e, f, g, h)) r
+    first-smaller h r = grows-as (λ js. rw (o .there, o .first, o .second, h)) r
 
     pub second-smaller : leb (count s) (count t) ≡ false → Grows w ks low b a t s (inOrder ks i t s) t′ s′ w′ → Next s′ t′ w′
-    second-smaller h r = grows-as (λ js. rw (e, f, g, h)) (turn-grows i r)
+    second-smaller h r = grows-as (λ js. rw (o .there, o .first, o .second, h)) (turn-grows i r)
 
 -- the conditions below i tried
 abbrev pub Grown : List ℕ → List ℕ → ℕ → ℕ → ℕ → ℕ → ℕ → ℕ → ℕ → ℕ → List ℕ → Type 0

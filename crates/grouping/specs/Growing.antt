@@ -6,7 +6,7 @@ use mathlib.Core.List.{List}
 use lib.ListN.{length}
 use Rattle.rules.specs.Bytes.{at, numbersFrom}
 use Rattle.rules.specs.Cell.{cells, present, insert, singleton, leastOver}
-use Rattle.rules.specs.Stage.{Grouping, none, sets, tryJoin, grow, grouping}
+use Rattle.rules.specs.Stage.{Grouping, none, sets, tryJoin, grouping}
 use Rattle.tables.specs.Part.{part, Laid, Shaped, Two}
 use Rattle.grouping.specs.Joining.{joins, joinsAt, admits}
 use Rattle.grouping.specs.declared.Sets.{Sets}

@@ -1,4 +1,5 @@
 -- `grouping::group` meets its contract.
+use Prim.Native.Nat.{_<_}
 use native.Mathlib.Omega.{arith}
 use Rattle.grouping.proofs.GroupedLaws.{rising, grouped-none, grouped-some}
 use Rattle.grouping.proofs.KeptLaws.{same-space}
@@ -21,24 +22,34 @@ same-length c = search needs
 returns : tie.Need-returns
 returns c = let s = c .before .before .before .before .before .args in grouped-none (c .before .before .first-pair .ensures) (s .a) (s .b) (c .enum-told .given .1)
 
+-- the pair's conditions
+range : (c : tie.After-i) → let p = c .i .given .0 in (p .0 < p .1 .0) × (p .1 .0 < 8)
+range c = rising (c .before .before .first-pair .ensures) (c .i .given .1)
+
 start-sets-requires : tie.Need-start-sets-requires
-start-sets-requires c κs = let r = rising (c .before .before .before .before .first-pair .ensures) (c .before .before .i .given .1) in (omega arith, r .1, c .before .before .before .before .before .before .before .pre .1)
+start-sets-requires c κs =
+    let r = range (c .before .before) in
+    (omega arith, r .1, c .before .before .before .before .before .before .before .pre .1)
 
 singleton-requires : tie.Need-singleton-requires
-singleton-requires c κs = let r = rising (c .before .before .before .before .before .before .before .first-pair .ensures) (c .before .before .before .before .before .i .given .1) in omega arith
+singleton-requires c κs = let r = range (c .before .before .before .before .before) in omega arith
 
 singleton-requires-2 : tie.Need-singleton-requires-2
-singleton-requires-2 c κs = rising (c .before .before .before .before .before .before .before .before .first-pair .ensures) (c .before .before .before .before .before .before .i .given .1) .1
+singleton-requires-2 c κs = range (c .before .before .before .before .before .before) .1
 
 grow-requires : tie.Need-grow-requires
-grow-requires c κs = same-space (c .before .before .before .before .before .start-sets .ensures .kept .len) (c .before .before .before .before .before .before .before .before .before .before .before .before .before .pre .0)
+grow-requires c κs =
+    let d = c .before .before .before .before .before in
+    same-space (d .start-sets .ensures .kept .len) (d .before .before .before .before .before .before .before .before .pre .0)
 
 same-length-2 : tie.Need-same-length-2
 same-length-2 c = search needs
 
 returns-2 : tie.Need-returns-2
 returns-2 c =
-    grouped-some (c .before .before .before .before .before .before .before .before .before .before .before .before .before .first-pair .ensures) (c .before .before .before .before .before .before .before .before .before .before .before .i .given .1) (c .before .before .before .before .before .before .before .before .before .before .before .before .before .before .before .before .pre .0) (c .before .before .before .before .before .before .before .before .start-sets .ensures)
+    let d = c .before .before .before .before .before .before .before .before in
+    let p = d .before .before .before in
+    grouped-some (p .before .before .first-pair .ensures) (p .i .given .1) (p .before .before .before .before .before .pre .0) (d .start-sets .ensures)
     (c .before .before .before .before .before .singleton .ensures) (c .before .before .before .before .singleton2 .ensures) (c .before .before .grow .ensures)
 
 pub group-spec : {M : Type 1} → statement M

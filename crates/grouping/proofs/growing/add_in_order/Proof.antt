@@ -18,7 +18,10 @@ same-length : tie.Need-same-length
 same-length c = search needs
 
 returns : tie.Need-returns
-returns c = let b = c .before .before .before .before .before .before .before in rw (c .insert .ensures) (added-first (b .args .found .s) (b .args .found .t) (b .pre .1) (c .before .before .before .before .try-add .ensures) (c .before .if1 .taken))
+returns c =
+    let d = c .before .before .before .before in
+    let b = d .before .before .before in
+    rw (c .insert .ensures) (added-first (b .args .found .s) (b .args .found .t) (b .pre .1) (d .try-add .ensures) (c .before .if1 .taken))
 
 try-add-requires-2 : tie.Need-try-add-requires-2
 try-add-requires-2 c κs = let p = c .before .before .before .before .before .before .before .pre in
@@ -33,17 +36,21 @@ same-length-2 c = search needs
 
 returns-2 : tie.Need-returns-2
 returns-2 c =
-    let b = c .before .before .before .before .before .before .before .before .before .before .before .before in
+    let e = c .before .before .before .before in
+    let d = e .before .before .before .before .before in
+    let b = d .before .before .before in
     rw (c .insert2 .ensures)
-    (added-second (b .args .found .s) (b .args .found .t) (b .pre .1) (c .before .before .before .before .before .before .before .before .before .try-add .ensures) (c .before .before .before .before .before .before .if1 .left) (c .before .before .before .before .try-add2 .ensures) (c .before .if2 .taken))
+    (added-second (b .args .found .s) (b .args .found .t) (b .pre .1) (d .try-add .ensures) (e .before .before .if1 .left) (e .try-add2 .ensures) (c .before .if2 .taken))
 
 same-length-3 : tie.Need-same-length-3
 same-length-3 c = search needs
 
 returns-3 : tie.Need-returns-3
 returns-3 c =
-    let b = c .before .before .before .before .before .before .before .before .before .before .before in
-    added-neither (b .args .found .s) (b .args .found .t) (b .pre .1) (c .before .before .before .before .before .before .before .before .try-add .ensures) (c .before .before .before .before .before .if1 .left) (c .before .before .before .try-add2 .ensures) (c .if2 .left)
+    let e = c .before .before .before in
+    let d = e .before .before .before .before .before in
+    let b = d .before .before .before in
+    added-neither (b .args .found .s) (b .args .found .t) (b .pre .1) (d .try-add .ensures) (e .before .before .if1 .left) (e .try-add2 .ensures) (c .if2 .left)
 
 pub add-in-order-spec : {M : Type 1} → statement M
 add-in-order-spec =

@@ -17,7 +17,10 @@ same-length : tie.Need-same-length
 same-length c = search needs
 
 returns : tie.Need-returns
-returns c = let b = c .before .before .before .before .before .before .before .before .before .before in copied-least (b .args .ks) (b .args .i) (b .pre .2) (c .before .before .before .before .before .before .before .before .cell-count .ensures) (c .before .before .before .before .before .before .copy .ensures) (c .before .before .over-one .ensures)
+returns c =
+    let d = c .before .before .before .before .before .before in
+    let b = d .before .before .before .before in
+    copied-least (b .args .ks) (b .args .i) (b .pre .2) (d .before .before .cell-count .ensures) (d .copy .ensures) (c .before .before .over-one .ensures)
 
 pub least-over-spec : {M : Type 1} → statement M
 least-over-spec =

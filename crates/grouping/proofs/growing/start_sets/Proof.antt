@@ -14,7 +14,10 @@ same-length : tie.Need-same-length
 same-length c = search needs
 
 returns : tie.Need-returns
-returns c = let b = c .before .before .before .before .before .before .before .before .before in started (b .args .i) (b .args .j) (b .pre .2) (c .before .before .before .before .before .before .least-over .ensures) (c .before .before .least-over2 .ensures)
+returns c =
+    let d = c .before .before in
+    let b = d .before .before .before .before .before .before .before in
+    started (b .args .i) (b .args .j) (b .pre .2) (d .before .before .before .before .least-over .ensures) (d .least-over2 .ensures)
 
 pub start-sets-spec : {M : Type 1} → statement M
 start-sets-spec =
