@@ -9,7 +9,6 @@ ghost use Rattle.network.specs.Checking.{Checked, Checkable, Searched};
 use rules::Refusal;
 use shape::Shape;
 
-pub mod limits;
 mod run;
 mod scan;
 
@@ -64,7 +63,7 @@ pub fn check(
     if work.len() < network.len() / scan::RECORD {
         return CheckAnswer::Refused(Refusal::ShortBuffer);
     }
-    if !limits::limits_sound(lower, upper, shape.m, cells) {
+    if !tables::limits::limits_sound(lower, upper, shape.m, cells) {
         return CheckAnswer::Refused(Refusal::GradeLimits);
     }
     if !scan::scan(network, shape.places(), shape.m) {
