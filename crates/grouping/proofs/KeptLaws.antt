@@ -10,13 +10,13 @@ use Rattle.laws.proofs.LineLaws.{over-insert}
 use Rattle.laws.proofs.OverLaws.{min-bound}
 use Rattle.laws.proofs.TableLaws.{length-tabulateFrom}
 use Rattle.laws.proofs.TestLaws.{by-order}
-use Rattle.tables.specs.Part.{part, Laid, Two}
+use Rattle.tables.specs.Part.{part, Laid, Apart, Two}
 use Rattle.tables.proofs.PartLaws.{part-length, part-same, laid-then, laid-part, laid-apart}
 use Rattle.grouping.specs.Joining.{Tables}
 use Rattle.grouping.specs.Growing.{Held, Kept, Space, Started}
 
 -- parts that lie apart, from either
-turn-apart : {w : List ℕ} {from to n : ℕ} → Two w from to n → Two w to from n
+pub turn-apart : {w : List ℕ} {from m to n : ℕ} → Apart w from m to n → Apart w to n from m
 turn-apart p = record { src = p .dst; dst = p .src; apart = ⊎-elim (λ q. inr q) (λ q. inl q) (p .apart) }
 
 same-apart : {w w′ : List ℕ} {from to n : ℕ} → length w′ ≡ length w → Two w from to n → Two w′ from to n

@@ -1,0 +1,2 @@
+-- What the contracts of a stage's tables cite.
+pub mod Working

@@ -1,0 +1,2 @@
+// The tables of one stage of compiling, as parts of its work buffer.
+pub mod drops;
