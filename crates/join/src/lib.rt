@@ -56,10 +56,10 @@ fn rows(
     fill::load(w, upper, n, n);
     parts::exchange(w, gate, shape.m, 0, 2 * n, n);
     parts::uppers(w, ks, s, t, n);
-    if !parts::exists(w, n) {
-        return JoinAnswer::Refused(Refusal::NoJoin);
+    if parts::exists(w, n) {
+        return JoinAnswer::Limits;
     }
-    JoinAnswer::Limits
+    JoinAnswer::Refused(Refusal::NoJoin)
 }
 
 // The limits of a join's first block.
