@@ -1,49 +1,19 @@
 // Runs the two join calls on document 01's tables E and F and on an input for each refusal that a
 // join can meet, and prints what it got: the answer, and both output buffers whole.
 use join::JoinAnswer;
-use libc::STDOUT_FILENO;
 use rules::Gate;
-use rules::Refusal;
 use shape::Shape;
 
-fn text(s: &[u8]) {
-    io::write_all(STDOUT_FILENO, s);
-}
-
-fn number(x: usize) {
-    io::print_decimal(STDOUT_FILENO, x as u64);
-}
-
-fn refused(refusal: Refusal) {
-    text(b"refused ");
-    number(refusal.number() as usize);
-}
-
-fn between(lower: u8, upper: u8) {
-    text(b" ");
-    number(lower as usize);
-    text(b"..");
-    number(upper as usize);
-}
-
-fn show_limits(lower: &[u8], upper: &[u8]) {
-    for c in 0..lower.len() {
-        if c < upper.len() {
-            between(lower[c], upper[c]);
-        }
-    }
-}
-
 fn show(name: &[u8], answer: JoinAnswer, lower: &[u8], upper: &[u8]) {
-    text(name);
-    text(b": ");
+    printing::text(name);
+    printing::text(b": ");
     match answer {
-        JoinAnswer::Limits => text(b"limits"),
-        JoinAnswer::Refused(refusal) => refused(refusal),
+        JoinAnswer::Limits => printing::text(b"limits"),
+        JoinAnswer::Refused(refusal) => printing::refused(refusal),
     }
-    text(b", buffers");
-    show_limits(lower, upper);
-    text(b"\n");
+    printing::text(b", buffers");
+    printing::limits(lower, upper);
+    printing::text(b"\n");
 }
 
 // The first block's limits, to two buffers that hold 99 everywhere.

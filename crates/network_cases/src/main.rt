@@ -2,10 +2,8 @@
 // prints what it got: the grade, the refusal's number or what the check found; then the bytes of
 // the work buffer that the call had to leave: all of them after a refusal, else those past the
 // records. The buffer holds 99 everywhere before.
-use libc::STDOUT_FILENO;
 use network::CheckAnswer;
 use network::Evaluation;
-use rules::Refusal;
 use shape::Shape;
 
 // A network of at most sixteen records.
@@ -106,45 +104,32 @@ impl Limits {
     }
 }
 
-fn text(s: &[u8]) {
-    io::write_all(STDOUT_FILENO, s);
-}
-
-fn number(x: usize) {
-    io::print_decimal(STDOUT_FILENO, x as u64);
-}
-
-fn refused(refusal: Refusal) {
-    text(b"refused ");
-    number(refusal.number() as usize);
-}
-
 fn show_evaluation(answer: Evaluation) {
     match answer {
         Evaluation::Grade(grade) => {
-            text(b"grade ");
-            number(grade as usize);
+            printing::text(b"grade ");
+            printing::number(grade as usize);
         }
-        Evaluation::Refused(refusal) => refused(refusal),
+        Evaluation::Refused(refusal) => printing::refused(refusal),
     }
 }
 
 fn show_check(answer: CheckAnswer) {
     match answer {
-        CheckAnswer::Within => text(b"within"),
+        CheckAnswer::Within => printing::text(b"within"),
         CheckAnswer::Outside { cell, grade } => {
-            text(b"outside at ");
-            number(cell);
-            text(b" with ");
-            number(grade as usize);
+            printing::text(b"outside at ");
+            printing::number(cell);
+            printing::text(b" with ");
+            printing::number(grade as usize);
         }
-        CheckAnswer::Refused(refusal) => refused(refusal),
+        CheckAnswer::Refused(refusal) => printing::refused(refusal),
     }
 }
 
 fn byte(x: u8) {
-    text(b" ");
-    number(x as usize);
+    printing::text(b" ");
+    printing::number(x as usize);
 }
 
 // The bytes from a place on.
@@ -155,17 +140,17 @@ fn show_from(work: &[u8], from: usize) {
 }
 
 fn evaluate_into(name: &[u8], network: &[u8], shape: Shape, work: &mut [u8], cell: usize) {
-    text(name);
-    text(b": ");
+    printing::text(name);
+    printing::text(b": ");
     let answer = network::evaluate(network, shape, work, cell);
     show_evaluation(answer);
     let from = match answer {
         Evaluation::Grade(_) => network.len() / 16,
         Evaluation::Refused(_) => 0,
     };
-    text(b", work");
+    printing::text(b", work");
     show_from(work, from);
-    text(b"\n");
+    printing::text(b"\n");
 }
 
 fn evaluate(name: &[u8], network: &[u8], shape: Shape, room: usize, cell: usize) {
@@ -191,8 +176,8 @@ fn check_into(
     upper: &[u8],
     work: &mut [u8],
 ) {
-    text(name);
-    text(b": ");
+    printing::text(name);
+    printing::text(b": ");
     let answer = network::check(network, shape, lower, upper, work);
     show_check(answer);
     let from = match answer {
@@ -200,9 +185,9 @@ fn check_into(
         CheckAnswer::Outside { .. } => network.len() / 16,
         CheckAnswer::Refused(_) => 0,
     };
-    text(b", work");
+    printing::text(b", work");
     show_from(work, from);
-    text(b"\n");
+    printing::text(b"\n");
 }
 
 fn check(name: &[u8], network: &[u8], shape: Shape, lower: &[u8], upper: &[u8], room: usize) {
@@ -384,12 +369,12 @@ fn work() {
 // A long network, with work for one record too many, shown from a place on.
 fn evaluate_long(name: &[u8], network: &[u8], from: usize) {
     let mut work = [99u8; 4097];
-    text(name);
-    text(b": ");
+    printing::text(name);
+    printing::text(b": ");
     show_evaluation(network::evaluate(network, square(), &mut work, 0));
-    text(b", work");
+    printing::text(b", work");
     show_from(&work, from);
-    text(b"\n");
+    printing::text(b"\n");
 }
 
 fn lengths() {

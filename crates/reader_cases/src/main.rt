@@ -1,7 +1,5 @@
 // Reads a table file for each refusal that a file can meet, and document 01's small tables, and
 // prints what it got: the refusal's number, or the shape and the limits of each cell.
-use libc::STDOUT_FILENO;
-use rules::Refusal;
 use shape::Shape;
 use table_file::TableAnswer;
 
@@ -67,21 +65,8 @@ impl File {
     }
 }
 
-fn text(s: &[u8]) {
-    io::write_all(STDOUT_FILENO, s);
-}
-
-fn number(x: usize) {
-    io::print_decimal(STDOUT_FILENO, x as u64);
-}
-
-fn refused(refusal: Refusal) {
-    text(b"refused ");
-    number(refusal.number() as usize);
-}
-
 fn space() {
-    text(b" ");
+    printing::text(b" ");
 }
 
 fn show_cards(shape: Shape) {
@@ -89,43 +74,28 @@ fn show_cards(shape: Shape) {
         let card = shape.cardinality(i);
         if 1 < card {
             space();
-            number(card);
+            printing::number(card);
         }
     }
 }
 
 fn show_shape(shape: Shape) {
-    text(b"cardinalities");
+    printing::text(b"cardinalities");
     show_cards(shape);
-    text(b", grades ");
-    number(shape.m as usize);
-}
-
-fn between(lower: u8, upper: u8) {
-    space();
-    number(lower as usize);
-    text(b"..");
-    number(upper as usize);
-}
-
-fn show_limits(lower: &[u8], upper: &[u8]) {
-    for c in 0..lower.len() {
-        if c < upper.len() {
-            between(lower[c], upper[c]);
-        }
-    }
+    printing::text(b", grades ");
+    printing::number(shape.m as usize);
 }
 
 fn read_into(name: &[u8], file: &[u8], lower: &mut [u8], upper: &mut [u8]) {
-    text(name);
-    text(b": ");
+    printing::text(name);
+    printing::text(b": ");
     match table_file::read_table(file, lower, upper) {
         TableAnswer::Table(shape) => show_shape(shape),
-        TableAnswer::Refused(refusal) => refused(refusal),
+        TableAnswer::Refused(refusal) => printing::refused(refusal),
     }
-    text(b", buffers");
-    show_limits(lower, upper);
-    text(b"\n");
+    printing::text(b", buffers");
+    printing::limits(lower, upper);
+    printing::text(b"\n");
 }
 
 // Reads the file into two buffers of `room` bytes that hold 99 everywhere, and shows all of them.

@@ -1,11 +1,10 @@
--- `reader_cases::show_limits` meets its contract.
--- Assumes nothing.
+-- `printing::limits` meets its contract.
 use mathlib.Core.Path.{_≡_}
 use Prim.Native.Nat.{_-_, _≤_}
 use lib.ListN.{length}
 use borrow.Author.Needs.{needs}
-use Rattle.reader_cases.proofs.show_limits.Statement.{statement}
-use Rattle.reader_cases.proofs.show_limits.Tie as tie
+use Rattle.printing.proofs.limits.Statement.{statement}
+use Rattle.printing.proofs.limits.Tie as tie
 
 abbrev Inv-loop : tie.InvT-loop
 Inv-loop lower upper c₀ c-end c = (c-end ≡ length lower) × (c ≤ c-end)
@@ -37,8 +36,8 @@ loop-again c = search needs
 returns : tie.Need-returns Inv-loop μ-loop
 returns c = search needs
 
-pub show-limits-spec : {M : Type 1} → statement M
-show-limits-spec =
+pub limits-spec : {M : Type 1} → statement M
+limits-spec =
     tie.close
     (tie.spec
     Inv-loop
