@@ -1,5 +1,4 @@
 -- `network::grade_within` meets its contract.
--- Assumes nothing.
 use borrow.Author.Tests.{le-leb, lt-leb}
 use Rattle.network.proofs.grade_within.Statement.{statement}
 use Rattle.network.proofs.grade_within.Tie as tie

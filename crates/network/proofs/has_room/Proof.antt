@@ -1,5 +1,4 @@
 -- `network::has_room` meets its contract.
--- Assumes nothing.
 use borrow.Author.Tests.{le-leb, lt-leb}
 use Rattle.network.proofs.TestLaws.{and-true}
 use Rattle.network.proofs.has_room.Statement.{statement}

@@ -1,5 +1,4 @@
 -- `network_cases::try_check` meets its contract.
--- Assumes nothing.
 use mathlib.Core.Path.{_≡_}
 use native.Mathlib.Omega.{arith}
 use lib.ListN.{length}

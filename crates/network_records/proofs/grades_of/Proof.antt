@@ -1,5 +1,4 @@
 -- `network_records::grades_of` meets its contract.
--- Assumes nothing.
 use mathlib.Core.Path.{_≡_, refl, subst, _∙_}
 use Prim.Native.Nat.{ℕ, _-_, _≤_}
 use native.Mathlib.Omega.{arith}

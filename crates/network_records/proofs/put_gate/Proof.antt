@@ -1,5 +1,4 @@
 -- `network_records::put_gate` meets its contract.
--- Assumes nothing.
 use mathlib.Core.Path.{ap}
 use mathlib.Core.List.{_∷_}
 use Prim.Native.Nat.{ℕ, _/_, _%_}

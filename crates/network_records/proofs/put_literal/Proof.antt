@@ -1,5 +1,4 @@
 -- `network_records::put_literal` meets its contract.
--- Assumes nothing.
 use mathlib.Core.List.{List}
 use Prim.Native.Nat.{ℕ}
 use Rattle.tables.proofs.PartLaws.{laid-as}

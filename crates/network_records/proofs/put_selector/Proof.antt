@@ -1,5 +1,4 @@
 -- `network_records::put_selector` meets its contract.
--- Assumes nothing.
 use lib.ListN.{set, length-set}
 use Rattle.tables.proofs.PartLaws.{laid-as}
 use lib.Dec.{eqb}

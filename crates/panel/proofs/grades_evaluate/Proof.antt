@@ -1,5 +1,4 @@
 -- `panel::grades_evaluate` meets its contract.
--- Assumes nothing.
 use mathlib.Core.Path.{sym, _∙_}
 use borrow.Author.Needs.{needs}
 use Rattle.panel.proofs.AnswerLaws.{evaluates, refuses}

@@ -1,5 +1,4 @@
 -- `places::cell_count` meets its contract: the step past the last place.
--- Assumes nothing.
 use mathlib.Core.Path.{_∙_}
 use borrow.Author.Needs.{needs}
 use Rattle.laws.proofs.LineLaws.{step-all}

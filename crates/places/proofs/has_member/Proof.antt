@@ -1,5 +1,4 @@
 -- `places::has_member` meets its contract.
--- Assumes nothing.
 use mathlib.Core.Path.{sym}
 use lib.ListN.{set}
 use Rattle.laws.proofs.NumberLaws.{has-bit}

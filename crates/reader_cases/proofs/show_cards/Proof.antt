@@ -1,5 +1,4 @@
 -- `reader_cases::show_cards` meets its contract.
--- Assumes nothing.
 use Prim.Native.Nat.{_-_, _≤_}
 use borrow.Author.Needs.{needs}
 use Rattle.reader_cases.proofs.show_cards.Statement.{statement}

@@ -1,5 +1,4 @@
 -- `reader_cases::try_file` meets its contract.
--- Assumes nothing.
 use mathlib.Core.Path.{_≡_}
 use native.Mathlib.Omega.{arith}
 use lib.ListN.{length}

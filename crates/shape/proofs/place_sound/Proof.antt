@@ -1,5 +1,4 @@
 -- `shape::place_sound` meets its contract.
--- Assumes nothing.
 use borrow.Author.Tests.{lt-ltb, le-ltb, lt-leb, le-leb}
 use Rattle.shape.proofs.place_sound.Statement.{statement}
 use Rattle.shape.proofs.place_sound.Tie as tie

@@ -1,5 +1,4 @@
 -- `network::run::gate_grade` meets its contract.
--- Assumes nothing.
 use borrow.Author.Tests.{eq-eqb, ne-eqb}
 use borrow.Author.Needs.{needs}
 use Rattle.network.proofs.run.gate_grade.Statement.{statement}

@@ -1,5 +1,4 @@
 -- `network::run::grade_at` meets its contract.
--- Assumes nothing.
 use Prim.Native.Nat.{_-_, _/_}
 use native.Mathlib.Omega.{arith}
 use lib.ListN.{length}

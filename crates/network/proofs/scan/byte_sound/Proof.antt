@@ -1,5 +1,4 @@
 -- `network::scan::byte_sound` meets its contract.
--- Assumes nothing.
 use lib.Dec.{eqb}
 use Rattle.network.proofs.ZeroLaws.{table, may-hold, must-be-zero}
 use borrow.Author.Needs.{needs}

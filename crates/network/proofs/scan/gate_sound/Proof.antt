@@ -1,5 +1,4 @@
 -- `network::scan::gate_sound` meets its contract.
--- Assumes nothing.
 use borrow.Author.Tests.{lt-ltb, le-ltb}
 use borrow.Author.Needs.{needs}
 use Rattle.network.proofs.scan.gate_sound.Statement.{statement}

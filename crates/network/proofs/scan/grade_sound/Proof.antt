@@ -1,5 +1,4 @@
 -- `network::scan::grade_sound` meets its contract.
--- Assumes nothing.
 use borrow.Author.Tests.{lt-ltb, le-ltb}
 use Rattle.network.proofs.scan.grade_sound.Statement.{statement}
 use Rattle.network.proofs.scan.grade_sound.Tie as tie

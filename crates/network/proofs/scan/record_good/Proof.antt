@@ -1,5 +1,4 @@
 -- `network::scan::record_good` meets its contract.
--- Assumes nothing.
 use mathlib.Core.Path.{ap, _∙_}
 use Rattle.rules.specs.Network.{recordSound}
 use Rattle.network.proofs.PartLaws.{part-record, part-length}

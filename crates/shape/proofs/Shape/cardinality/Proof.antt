@@ -1,5 +1,4 @@
 -- `shape::Shape::cardinality` meets its contract.
--- Assumes nothing.
 use mathlib.Core.Path.{sym}
 use native.Mathlib.Omega.{arith}
 use Rattle.shape.specs.Shapes.{placesOf}

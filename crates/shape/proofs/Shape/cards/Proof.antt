@@ -1,5 +1,4 @@
 -- `shape::Shape::cards` meets its contract.
--- Assumes nothing.
 use mathlib.Core.Path.{refl}
 use Rattle.shape.specs.Shapes.{cardsOf}
 use Rattle.shape.proofs.Shape.cards.Statement.{statement}

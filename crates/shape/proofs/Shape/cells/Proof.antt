@@ -1,5 +1,4 @@
 -- `shape::Shape::cells` meets its contract.
--- Assumes nothing.
 use mathlib.Core.Path.{ap, _∙_}
 use Rattle.rules.specs.Cell.{cells}
 use borrow.Author.Needs.{needs}

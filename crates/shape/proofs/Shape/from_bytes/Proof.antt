@@ -1,5 +1,4 @@
 -- `shape::Shape::from_bytes` meets its contract.
--- Assumes nothing.
 use mathlib.Core.Path.{sym, _∙_}
 use Rattle.shape.proofs.ShapeLaws.{bytes-other, bytes-ten}
 use borrow.Author.Needs.{needs}

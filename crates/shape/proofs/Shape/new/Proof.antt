@@ -1,5 +1,4 @@
 -- `shape::Shape::new` meets its contract.
--- Assumes nothing.
 use mathlib.Core.Path.{sym, _∙_}
 use Rattle.shape.proofs.ShapeLaws.{new-sound, new-unsound}
 use borrow.Author.Needs.{needs}

@@ -1,5 +1,4 @@
 -- `shape::Shape::places` meets its contract.
--- Assumes nothing.
 use Rattle.shape.specs.Shapes.{cardsOf}
 use borrow.Author.Needs.{needs}
 use Rattle.shape.proofs.Shape.places.Statement.{statement}

@@ -1,5 +1,4 @@
 -- `shape::Shape::sound` meets its contract.
--- Assumes nothing.
 use mathlib.Core.Path.{refl, sym, ap, _∙_}
 use mathlib.Core.List.{List}
 use Prim.Native.Nat.{ℕ}

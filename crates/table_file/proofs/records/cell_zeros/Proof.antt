@@ -1,5 +1,4 @@
 -- `table_file::records::cell_zeros` meets its contract.
--- Assumes nothing.
 use mathlib.Core.Path.{sym, _∙_}
 use borrow.Author.Tests.{not-true, not-false}
 use Rattle.table_file.proofs.RecordLaws.{and-left, and-pass}

@@ -1,5 +1,4 @@
 -- `table_file::records::condition` meets its contract.
--- Assumes nothing.
 use mathlib.Core.Path.{refl, sym, ap, subst, _∙_}
 use Prim.Native.Nat.{_+_}
 use lib.ListN.{set, length-set}

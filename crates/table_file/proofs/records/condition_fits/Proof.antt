@@ -1,5 +1,4 @@
 -- `table_file::records::condition_fits` meets its contract.
--- Assumes nothing.
 use mathlib.Core.Path.{sym, ap}
 use Prim.Native.Nat.{ℕ, _*_, _≤_}
 use native.Mathlib.Omega.{arith}

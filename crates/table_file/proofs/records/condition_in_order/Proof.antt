@@ -1,5 +1,4 @@
 -- `table_file::records::condition_in_order` meets its contract.
--- Assumes nothing.
 use borrow.Author.Tests.{eq-eqb, ne-eqb}
 use Rattle.table_file.proofs.records.condition_in_order.Statement.{statement}
 use Rattle.table_file.proofs.records.condition_in_order.Tie as tie

@@ -1,5 +1,4 @@
 -- `table_file::records::first_seen` meets its contract.
--- Assumes nothing.
 use mathlib.Core.Path.{refl}
 use Rattle.shape.specs.Shapes.{cardsOf}
 use Rattle.table_file.proofs.records.first_seen.Statement.{statement}

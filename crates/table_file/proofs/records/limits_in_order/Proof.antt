@@ -1,5 +1,4 @@
 -- `table_file::records::limits_in_order` meets its contract.
--- Assumes nothing.
 use mathlib.Core.Path.{sym, _∙_}
 use borrow.Author.Tests.{le-leb, lt-leb}
 use Rattle.table_file.proofs.RecordLaws.{and-left, and-pass}

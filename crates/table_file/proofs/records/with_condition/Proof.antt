@@ -1,5 +1,4 @@
 -- `table_file::records::with_condition` meets its contract.
--- Assumes nothing.
 use mathlib.Core.Path.{ap}
 use mathlib.Core.List.{List}
 use Prim.Native.Nat.{ℕ, _+_}
