@@ -11,11 +11,11 @@ use Rattle.rules.specs.Cell.{Positive, cells, singleton, insert, leastOver, gre
 use Rattle.rules.specs.Stage.{fits, merged}
 use Rattle.laws.proofs.LineLaws.{over-insert}
 use Rattle.laws.proofs.OverLaws.{max-bound, min-bound, over-self, over-least, over-blind}
-use Rattle.laws.proofs.TableLaws.{all-at, all-of}
 use Rattle.tables.specs.Part.{part, Shaped}
 use Rattle.tables.specs.Line.{lineBest}
 use Rattle.tables.proofs.PartLaws.{part-at}
-use Rattle.tables.proofs.ScanLaws.{all-passed, all-failed}
+use Rattle.laws.proofs.TableLaws.{all-at, all-of, all-false}
+use Rattle.tables.proofs.ScanLaws.{all-passed}
 use Rattle.grouping.specs.Joining.{lineStart, stageAt, joins, joinsAt, admits}
 use Rattle.grouping.proofs.LeastLaws.{Axis, least-at}
 
@@ -25,7 +25,7 @@ module _ {n : ℕ} {p q : ℕ → Bool} (same : (k : ℕ) → k < n → q k ≡ 
   scan-passed {c} e h = sym (all-passed n p e (λ k l. sym (same k (omega arith)) ∙ h k l))
 
   scan-failed : (k : ℕ) → k < n → q k ≡ false → false ≡ all n p
-  scan-failed k h e = sym (all-failed n p k h (sym (same k h) ∙ e))
+  scan-failed k h e = sym (all-false n p k h (sym (same k h) ∙ e))
 
 -- two tests of which each gives the other
 iff : (a b : Bool) → (T a → T b) → (T b → T a) → a ≡ b

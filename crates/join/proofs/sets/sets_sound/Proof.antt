@@ -6,7 +6,8 @@ use borrow.Author.Needs.{needs}
 use mathlib.Core.Bool.{true, false}
 use borrow.Author.Count.{below-more}
 use borrow.Author.Tests.{eq-eqb, ne-eqb, not-true, not-false}
-use Rattle.tables.proofs.ScanLaws.{all-passed, all-failed}
+use Rattle.laws.proofs.TableLaws.{all-false}
+use Rattle.tables.proofs.ScanLaws.{all-passed}
 use Rattle.join.proofs.SetsLaws.{memberTest, member-is, sets-by}
 use Rattle.join.proofs.sets.sets_sound.Statement.{statement}
 use Rattle.join.proofs.sets.sets_sound.Tie as tie
@@ -43,7 +44,7 @@ returns-3 c =
     let s = c .before .before .before .before .before .before .before .before in
     let l = c .before .before .before .before .before .loop in
     let m = member-is (s .args .t1) (s .args .s) (s .args .t) (l .i) (c .before .before .before .has-member .result) (c .before .before .has-member2 .result) (c .before .member-sound .result) (omega arith) (c .before .before .before .has-member .ensures) (c .before .before .has-member2 .ensures) (c .before .member-sound .ensures) in
-    sym (sets-by (s .args .t1) (s .args .s) (s .args .t) false false false (ne-eqb (s .args .s) 0 (l .inv .1)) (ne-eqb (s .args .t) 0 (l .inv .2)) (all-failed 8 (memberTest (s .args .t1) (s .args .s) (s .args .t)) (l .i) (omega arith) (m ∙ not-true _ (c .if3 .taken))))
+    sym (sets-by (s .args .t1) (s .args .s) (s .args .t) false false false (ne-eqb (s .args .s) 0 (l .inv .1)) (ne-eqb (s .args .t) 0 (l .inv .2)) (all-false 8 (memberTest (s .args .t1) (s .args .s) (s .args .t)) (l .i) (omega arith) (m ∙ not-true _ (c .if3 .taken))))
 
 add-i : tie.Need-add-i Inv-loop μ-loop
 add-i c = search needs

@@ -8,7 +8,8 @@ use borrow.Author.Count.{below-more}
 use borrow.Author.Needs.{needs}
 use borrow.Author.Tests.{lt-leb, le-leb, lt-ltb, le-ltb}
 use Rattle.rules.specs.Bytes.{at}
-use Rattle.tables.proofs.ScanLaws.{all-passed, all-failed}
+use Rattle.laws.proofs.TableLaws.{all-false}
+use Rattle.tables.proofs.ScanLaws.{all-passed}
 use Rattle.tables.proofs.limits.limits_sound.Statement.{statement}
 use Rattle.tables.proofs.limits.limits_sound.Tie as tie
 
@@ -31,7 +32,7 @@ returns : tie.Need-returns Inv-loop μ-loop
 returns c =
     let s = c .before .before .before .before .before .args in
     let k = c .before .before .before .before .loop .c in
-    sym (all-failed (s .n) _ k (omega arith) (rw (lt-leb (at (s .lower .now) k) (at (s .upper .now) k) (c .if1 .taken))))
+    sym (all-false (s .n) _ k (omega arith) (rw (lt-leb (at (s .lower .now) k) (at (s .upper .now) k) (c .if1 .taken))))
 
 shared-slice-read-if2 : tie.Need-shared-slice-read-if2 Inv-loop μ-loop
 shared-slice-read-if2 c = search needs
@@ -41,7 +42,7 @@ returns-2 c =
     let s = c .before .before .before .before .before .before .before .args in
     let k = c .before .before .before .before .before .before .loop .c in
     sym
-    (all-failed (s .n) _ k (omega arith)
+    (all-false (s .n) _ k (omega arith)
     (rw (le-leb (at (s .lower .now) k) (at (s .upper .now) k) (c .before .before .if1 .left), le-ltb (at (s .upper .now) k) (s .m) (c .if2 .taken))))
 
 add-c : tie.Need-add-c Inv-loop μ-loop

@@ -10,7 +10,8 @@ use lib.Dec.{leb}
 use Rattle.rules.specs.Bytes.{at}
 use Rattle.tables.specs.Part.{part}
 use Rattle.tables.proofs.PartLaws.{part-at}
-use Rattle.tables.proofs.ScanLaws.{all-passed, all-failed}
+use Rattle.laws.proofs.TableLaws.{all-false}
+use Rattle.tables.proofs.ScanLaws.{all-passed}
 use Rattle.tables.proofs.tests.fits.Statement.{statement}
 use Rattle.tables.proofs.tests.fits.Tie as tie
 
@@ -40,7 +41,7 @@ returns c =
     let s = c .before .before .before .before .before .args in
     let k = c .before .before .before .before .loop .c in
     let h : k < s .n = omega arith in
-    sym (all-failed (s .n) _ k h (ap₂ leb (part-at (s .w .now) (s .low) (s .n) k h) (part-at (s .w .now) (s .high) (s .n) k h) ∙ lt-leb _ _ (c .if1 .taken)))
+    sym (all-false (s .n) _ k h (ap₂ leb (part-at (s .w .now) (s .low) (s .n) k h) (part-at (s .w .now) (s .high) (s .n) k h) ∙ lt-leb _ _ (c .if1 .taken)))
 
 add-c : tie.Need-add-c Inv-loop μ-loop
 add-c c = search needs

@@ -10,7 +10,8 @@ use lib.Dec.{leb}
 use Rattle.rules.specs.Bytes.{at}
 use Rattle.tables.specs.Part.{part}
 use Rattle.tables.proofs.PartLaws.{part-at}
-use Rattle.tables.proofs.ScanLaws.{all-passed, all-failed}
+use Rattle.laws.proofs.TableLaws.{all-false}
+use Rattle.tables.proofs.ScanLaws.{all-passed}
 use Rattle.tables.proofs.tests.within_either.Statement.{statement}
 use Rattle.tables.proofs.tests.within_either.Tie as tie
 
@@ -50,7 +51,7 @@ returns c =
     let k = c .before .before .before .before .before .before .loop .c in
     let h : k < s .n = omega arith in
     sym
-    (all-failed (s .n) _ k h
+    (all-false (s .n) _ k h
     (ap₂ leb (part-at (s .w .now) (s .low) (s .n) k h) (ap₂ max (part-at (s .w .now) (s .a) (s .n) k h) (part-at (s .w .now) (s .b) (s .n) k h) ∙ sym (c .before .before .extreme .ensures))
     ∙ lt-leb _ _ (c .if1 .taken)))
 
