@@ -52,7 +52,7 @@ module _ (ks : List ℕ) (set high : ℕ) {w : List ℕ} {low to n : ℕ} {w′ 
       }
 
   -- its grades are among those of the low table, and 0
-  above-below : {m : ℕ} → Below w low n m → Below w′ to n m
+  pub above-below : {m : ℕ} → Below w low n m → Below w′ to n m
   above-below {m} b =
       record {
         grade = λ c lt.
@@ -64,10 +64,10 @@ module _ (ks : List ℕ) (set high : ℕ) {w : List ℕ} {low to n : ℕ} {w′ 
       }
 
 -- grades stay, and two parts of them are one
-grades-below : {w w′ : List ℕ} {lo hi a n m : ℕ} → Within w lo hi w′ → a + n ≤ lo → Below w a n m → Below w′ a n m
+pub grades-below : {w w′ : List ℕ} {lo hi a n m : ℕ} → Within w lo hi w′ → a + n ≤ lo → Below w a n m → Below w′ a n m
 grades-below {a = a} p le b = record { grade = λ c lt. rw (p .before (a + c) (omega arith)) (b .grade c lt) }
 
-grades-behind : {w w′ : List ℕ} {lo hi a n m : ℕ} → Within w lo hi w′ → hi ≤ a → Below w a n m → Below w′ a n m
+pub grades-behind : {w w′ : List ℕ} {lo hi a n m : ℕ} → Within w lo hi w′ → hi ≤ a → Below w a n m → Below w′ a n m
 grades-behind {a = a} p le b = record { grade = λ c lt. rw (p .after (a + c) (omega arith)) (b .grade c lt) }
 
 pub grades-both : {w : List ℕ} {m : ℕ} (a b n : ℕ) → a + n ≡ b → Below w a n m → Below w b n m → Below w a (2 * n) m

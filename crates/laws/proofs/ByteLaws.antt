@@ -1,8 +1,8 @@
 -- A record's sixteen bytes are that record again, and are not faulty; so for a network's bytes.
 use Prim.Native.Nat.{ℕ, zero, suc, _+_, _-_, _*_, _/_, _%_, _≤_, _<_}
-use mathlib.Core.Path.{_≡_, refl, _∙_, ap, ap₂, subst}
+use mathlib.Core.Path.{_≡_, refl, sym, _∙_, ap, ap₂, subst}
 use mathlib.Core.Bool.{_&&_}
-use mathlib.Core.List.{List, [], _∷_, _++_}
+use mathlib.Core.List.{List, [], _∷_, _++_, append-assoc}
 use native.Mathlib.Nat.{add-zero, zero-add, mul-suc, mod-add-div, not-suc-le-zero, le-of-suc-le-suc, mul-div-right, mul-mod-right}
 use native.Mathlib.Omega.{arith}
 use lib.Dec.{T, not-T, eqb, leb, ltb, ltb→lt, lt→ltb, nltb→le, le→leb}
@@ -68,10 +68,15 @@ module _ (ks : List ℕ) (few : (i : ℕ) → card ks i ≤ 8) (m k : ℕ) where
   recordSound-bytes (gate Max l r) h = words-below l r k h
 
 -- a network's bytes, record by record
-length-networkBytes : (rs : List Record) → length (networkBytes rs) ≡ 16 * length rs
+pub length-networkBytes : (rs : List Record) → length (networkBytes rs) ≡ 16 * length rs
 length-networkBytes [] = refl
 length-networkBytes (r ∷ rs) =
     length-append (recordBytes r) (networkBytes rs) ∙ omega (arith, length-recordBytes r, length-networkBytes rs, mul-suc 16 (length rs))
+
+pub networkBytes-append : (xs ys : List Record) → networkBytes (xs ++ ys) ≡ networkBytes xs ++ networkBytes ys
+networkBytes-append [] ys = refl
+networkBytes-append (x ∷ xs) ys =
+    ap (λ (b : List ℕ). recordBytes x ++ b) (networkBytes-append xs ys) ∙ sym (append-assoc (recordBytes x) (networkBytes xs) (networkBytes ys))
 
 pub recordAt-first : (a net : List ℕ) → length a ≡ 16 → recordAt (a ++ net) 0 ≡ a
 recordAt-first a net e = take-at a net 16 e

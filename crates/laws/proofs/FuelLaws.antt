@@ -73,10 +73,14 @@ network-left m x p =
     fuel-same m (width (x .ks)) (suc (width (x .ks))) x (le-refl _) (omega arith) p
     ∙ left-same m (stageTree m (width (x .ks))) (treeOf m) (left x) (d .pos) (λ z lt q. fuel-same m (width (x .ks)) (width (z .ks)) z (omega arith) (le-refl _) q) (width (left x .ks)) refl
 
-pub every-stage : (ks : List ℕ) (m : ℕ) (l : Limits) → Table ks m l → EveryStage ks m l
-every-stage ks m l t x s h = (exact m (left x), network-left m x (stages-ready ks m l t s .pos) ∙ go (width (left x .ks)) h)
+-- with two conditions left or more, the tree of its choice
+pub chosen-tree : (m : ℕ) (x : Stage) → Positive (x .ks) → 2 ≤ width (left x .ks) → treeOf m x ≡ choiceTree m (treeOf m) (chosen m (left x)) (left x)
+chosen-tree m x p h = network-left m x p ∙ go (width (left x .ks)) h
   where
     go : (n : ℕ) → 2 ≤ n → leftTree m (treeOf m) n (left x) ≡ choiceTree m (treeOf m) (chosen m (left x)) (left x)
     go zero h = absurd (omega arith)
     go (suc zero) h = absurd (omega arith)
     go (suc (suc n)) h = refl
+
+pub every-stage : (ks : List ℕ) (m : ℕ) (l : Limits) → Table ks m l → EveryStage ks m l
+every-stage ks m l t x s h = (exact m (left x), chosen-tree m x (stages-ready ks m l t s .pos) h)

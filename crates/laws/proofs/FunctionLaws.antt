@@ -7,13 +7,14 @@ use Rattle.laws.proofs.TableLaws.{tabulate-same}
 use Rattle.laws.proofs.CellLaws.{Sub, sub-without, value-lt, without-pos}
 use Rattle.laws.proofs.LowestLaws.{no-width, lowest-digit, lowest-rest}
 use Rattle.laws.proofs.TreeLaws.{Made, computed-at, computed-remap}
-use Rattle.laws.proofs.StageLaws.{Ready, left-shrunk, left-ready, left-ok, network-ok, admitted, first-ok, second-ok, cofactor-ok, cofactor-lt, split-at, literal-grade}
+use Rattle.laws.proofs.StageLaws.{Ready, left-shrunk, left-ready, left-ok, network-ok, first-ok, second-ok, cofactor-ok, cofactor-lt, split-at, literal-grade}
 use Rattle.laws.proofs.FuelLaws.{network-left}
 use Rattle.rules.specs.Bytes.{at, tabulate}
 use Rattle.rules.specs.Cell.{Positive, cells, card, width, lowest, value, remap, singleton, without, moved}
 use Rattle.rules.specs.Network.{combine}
 use Rattle.rules.specs.Tree.{Tree, treeGrade}
-use Rattle.rules.specs.Stage.{Stage, left, Choice, split, joining, chosen, firstStage, secondStage, cofactorStage, computed, choiceTree, leftTree, treeOf}
+use Rattle.rules.specs.Stage.{Stage, left, split, firstStage, secondStage, cofactorStage, computed, joinTree, choiceTree, leftTree, treeOf}
+use Rattle.rules.specs.Demands.{Admits}
 use Rattle.rules.specs.declared.Gate.{Gate}
 
 -- over fewer conditions, and moved
@@ -47,63 +48,57 @@ module _ (m : ℕ) (x : Stage) (r : Ready m x) where
       ap (computed (y .ks)) (network-left m x (r .pos))
       ∙ tabulate-same (cells (y .ks)) _ _ (λ c hc. leaf-grade (width (y .ks)) refl h c hc)
 
-  -- two or more left
-  chosen-tree : 2 ≤ width (y .ks) → (ch : Choice) → chosen m y ≡ ch → treeOf m x ≡ choiceTree m (treeOf m) ch y
-  chosen-tree h ch e = network-left m x (r .pos) ∙ go (width (y .ks)) h ∙ ap (λ (q : Choice). choiceTree m (treeOf m) q y) e
-    where
-      go : (n : ℕ) → 2 ≤ n → leftTree m (treeOf m) n y ≡ choiceTree m (treeOf m) (chosen m y) y
-      go zero h = absurd (omega arith)
-      go (suc zero) h = absurd (omega arith)
-      go (suc (suc n)) h = refl
-
+-- of a stage with its conditions left
+module _ (m : ℕ) (y : Stage) (r : Ready m y) where
   -- 5. the gate of the two blocks' functions, through the cell map
-  module _ (h : 2 ≤ width (y .ks)) (op : Gate) (s t : ℕ) (e : chosen m y ≡ joining op s t) where
+  module _ (op : Gate) (s t : ℕ) (ad : Admits m y op s t) where
     abbrev A : Stage
     A = firstStage m op s t y
 
     -- g, at the cells of the conditions left
     pub first-moved : computed (y .ks) (treeOf m A) ≡ moved (A .ks) (y .ks) (computed (A .ks) (treeOf m A))
     first-moved =
-        computed-moved (y .ks) (A .ks) m (treeOf m A) (ry .pos) (without-pos t (y .ks) (ry .pos)) (sub-without t (y .ks))
-        (first-ok m (treeOf m) (width (y .ks)) (λ z h q. network-ok m z q) y (omega arith) ry op s t (admitted m y op s t e) .made)
+        computed-moved (y .ks) (A .ks) m (treeOf m A) (r .pos) (without-pos t (y .ks) (r .pos)) (sub-without t (y .ks))
+        (first-ok m (treeOf m) (width (y .ks)) (λ z h q. network-ok m z q) y (omega arith) r op s t ad .made)
 
     abbrev B : Stage
     B = secondStage m op s t y (computed (y .ks) (treeOf m A))
 
-    pub second-moved : computed (y .ks) (treeOf m B) ≡ moved (B .ks) (y .ks) (computed (B .ks) (treeOf m B))
+    second-moved : computed (y .ks) (treeOf m B) ≡ moved (B .ks) (y .ks) (computed (B .ks) (treeOf m B))
     second-moved =
-        computed-moved (y .ks) (B .ks) m (treeOf m B) (ry .pos) (without-pos s (y .ks) (ry .pos)) (sub-without s (y .ks))
-        (second-ok m (treeOf m) (width (y .ks)) (λ z h q. network-ok m z q) y (omega arith) ry op s t (admitted m y op s t e) .made)
+        computed-moved (y .ks) (B .ks) m (treeOf m B) (r .pos) (without-pos s (y .ks) (r .pos)) (sub-without s (y .ks))
+        (second-ok m (treeOf m) (width (y .ks)) (λ z h q. network-ok m z q) y (omega arith) r op s t ad .made)
 
-    pub joined : computed (y .ks) (treeOf m x)
+    pub joined : computed (y .ks) (joinTree m (treeOf m) op s t y)
         ≡ tabulate (cells (y .ks)) (λ c. combine op (at (moved (A .ks) (y .ks) (computed (A .ks) (treeOf m A))) c) (at (moved (B .ks) (y .ks) (computed (B .ks) (treeOf m B))) c))
     joined =
-        ap (computed (y .ks)) (chosen-tree h (joining op s t) e)
-        ∙ tabulate-same (cells (y .ks)) _ _
+        tabulate-same (cells (y .ks)) _ _
         (λ c hc.
         ap₂ (combine op)
         (sym (computed-at (y .ks) (treeOf m A) c hc) ∙ ap (λ (l : List ℕ). at l c) first-moved)
         (sym (computed-at (y .ks) (treeOf m B) c hc) ∙ ap (λ (l : List ℕ). at l c) second-moved))
 
   -- 6. at the cells with value k, the function of the stage for k
-  module _ (h : 2 ≤ width (y .ks)) (e : chosen m y ≡ split) where
+  module _ (h : 1 ≤ width (y .ks)) where
     abbrev i : ℕ
     i = lowest (y .ks)
 
     abbrev b : List ℕ
     b = without (singleton i) (y .ks)
 
-    split-cofactor : (c : ℕ) → c < cells (y .ks) → at (computed (y .ks) (treeOf m x)) c ≡ at (computed b (treeOf m (cofactorStage (value (y .ks) c i) y))) (remap (y .ks) b c)
+    abbrev whole : Tree
+    whole = choiceTree m (treeOf m) split y
+
+    split-cofactor : (c : ℕ) → c < cells (y .ks) → at (computed (y .ks) whole) c ≡ at (computed b (treeOf m (cofactorStage (value (y .ks) c i) y))) (remap (y .ks) b c)
     split-cofactor c hc =
         let k = value (y .ks) c i in
-        let hk : k < card (y .ks) i = value-lt (y .ks) c i (ry .pos) in
-        computed-at (y .ks) (treeOf m x) c hc
-        ∙ ap (λ (n : Tree). treeGrade n (value (y .ks) c)) (chosen-tree h split e)
-        ∙ split-at m (treeOf m) (width (y .ks)) (λ z h q. network-ok m z q) y (omega arith) ry (omega arith) (value (y .ks) c) hk
-        ∙ sym (computed-remap (y .ks) b m (treeOf m (cofactorStage k y)) c (ry .pos) (without-pos (singleton i) (y .ks) (ry .pos)) (sub-without (singleton i) (y .ks))
-        (cofactor-ok m (treeOf m) (width (y .ks)) (λ z h q. network-ok m z q) y (omega arith) ry (omega arith) k hk .made))
+        let hk : k < card (y .ks) i = value-lt (y .ks) c i (r .pos) in
+        computed-at (y .ks) whole c hc
+        ∙ split-at m (treeOf m) (width (y .ks)) (λ z h q. network-ok m z q) y (omega arith) r h (value (y .ks) c) hk
+        ∙ sym (computed-remap (y .ks) b m (treeOf m (cofactorStage k y)) c (r .pos) (without-pos (singleton i) (y .ks) (r .pos)) (sub-without (singleton i) (y .ks))
+        (cofactor-ok m (treeOf m) (width (y .ks)) (λ z h q. network-ok m z q) y (omega arith) r h k hk .made))
 
-    pub splitted : (k c : ℕ) → k < card (y .ks) i → c < cells b → at (computed (y .ks) (treeOf m x)) (k + card (y .ks) i * c) ≡ at (computed b (treeOf m (cofactorStage k y))) c
+    pub splitted : (k c : ℕ) → k < card (y .ks) i → c < cells b → at (computed (y .ks) whole) (k + card (y .ks) i * c) ≡ at (computed b (treeOf m (cofactorStage k y))) c
     splitted k c hk hc =
-        split-cofactor (k + card (y .ks) i * c) (cofactor-lt y (ry .pos) (omega arith) k c hk hc)
-        ∙ ap₂ (λ (j d : ℕ). at (computed b (treeOf m (cofactorStage j y))) d) (lowest-digit (y .ks) k c (ry .pos) (omega arith) hk hc) (lowest-rest (y .ks) k c (ry .pos) (omega arith) hk hc)
+        split-cofactor (k + card (y .ks) i * c) (cofactor-lt y (r .pos) h k c hk hc)
+        ∙ ap₂ (λ (j d : ℕ). at (computed b (treeOf m (cofactorStage j y))) d) (lowest-digit (y .ks) k c (r .pos) h hk hc) (lowest-rest (y .ks) k c (r .pos) h hk hc)

@@ -80,7 +80,7 @@ pub second-spare : {w w′ ks : List ℕ} {c : ℕ} → Room w ks c → length w
 second-spare m e = let o = m .own in let r = m .room in record { src = omega arith; dst = omega arith; apart = inl (omega arith) }
 
 -- the stage over the places b, under two tables
-abbrev stageOf : List ℕ → List ℕ → List ℕ → Stage
+abbrev pub stageOf : List ℕ → List ℕ → List ℕ → Stage
 stageOf b l u = record { ks = b; limits = record { lower = l; upper = u } }
 
 pub both-reduced : {w w₁ w₂ ks r : List ℕ} {c : ℕ} (i : ℕ) → Room w ks c → r ≡ without (singleton i) ks

@@ -1,2 +1,5 @@
 -- What several proofs use.
+pub mod BlockLaws
+pub mod ChoiceLaws
 pub mod DropLaws
+pub mod SpaceLaws

@@ -76,6 +76,23 @@ laid-self w a n = record { len = refl; here = λ k h. sym (part-at w a n k h); b
 pub laid-then : {w : List ℕ} {a : ℕ} {t : List ℕ} {n : ℕ} {w′ u w″ : List ℕ} → Laid w a t n w′ → Laid w′ a u n w″ → Laid w a u n w″
 laid-then l m = record { len = m .len ∙ l .len; here = m .here; before = λ j h. m .before j h ∙ l .before j h; after = λ j h. m .after j h ∙ l .after j h }
 
+-- a table laid right behind another makes one of both
+pub laid-append : {w : List ℕ} {a : ℕ} {t : List ℕ} {n : ℕ} {v : List ℕ} {b : ℕ} {u : List ℕ} {k : ℕ} {w′ : List ℕ} → length t ≡ n → b ≡ a + n
+    → Laid w a t n v → Laid v b u k w′ → Laid w a (t ++ u) (n + k) w′
+laid-append {w} {a} {t} {n} {v} {b} {u} {k} {w′} e f l m =
+    record {
+      len = m .len ∙ l .len;
+      here = λ j h.
+          by-order n j
+          (λ le.
+          let q : b + (j - n) ≡ a + j = omega arith in
+          let p : length t + (j - n) ≡ j = omega arith in
+          sym (ap (at w′) q) ∙ m .here (j - n) (omega arith) ∙ sym (getD-append-add t u (j - n) 0) ∙ ap (at (t ++ u)) p)
+          (λ lt. m .before (a + j) (omega arith) ∙ l .here j lt ∙ sym (List·getD-append t u 0 j (omega arith)));
+      before = λ j h. m .before j (omega arith) ∙ l .before j h;
+      after = λ j h. m .after j (omega arith) ∙ l .after j (omega arith);
+    }
+
 -- two buffers with the same bytes at a part hold the same table there
 pub part-same : (w w′ : List ℕ) (a n : ℕ) → a + n ≤ length w → length w′ ≡ length w → ((k : ℕ) → k < n → at w′ (a + k) ≡ at w (a + k)) → part w′ a n ≡ part w a n
 part-same w w′ a n h e eq =
