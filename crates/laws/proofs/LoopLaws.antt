@@ -118,7 +118,7 @@ module _ (is : ℕ → Bool) (joins : ℕ → ℕ → Bool) where
 
 -- 6. the records of one value more: at is the number of the literal, c the size of the stage's network
 module _ (m : ℕ) (net : Stage → Tree) (x : Stage) where
-  part-records : (k r : ℕ) → records (splitPart m net x k) r ≡ records (selector m (x .ks) k) r ++ (records (net (cofactorStage k x)) (r + 1) ++ (gate Min r (r + size (net (cofactorStage k x))) ∷ []))
+  pub part-records : (k r : ℕ) → records (splitPart m net x k) r ≡ records (selector m (x .ks) k) r ++ (records (net (cofactorStage k x)) (r + 1) ++ (gate Min r (r + size (net (cofactorStage k x))) ∷ []))
   part-records k r =
       ap₂ (λ (a b : ℕ). (records (selector m (x .ks) k) r ++ records (net (cofactorStage k x)) (r + 1)) ++ (gate Min a b ∷ [])) (omega arith) (omega arith)
       ∙ append-assoc (records (selector m (x .ks) k) r) (records (net (cofactorStage k x)) (r + 1)) _

@@ -1,0 +1,107 @@
+-- The one record of a stage with no condition left or one, and a function moved to a stage's own places.
+use Prim.Native.Nat.{ℕ, _+_, _*_, _≤_, _<_}
+use mathlib.Core.Path.{_≡_, refl, sym, _∙_, ap, subst}
+use mathlib.Core.List.{List, [], _∷_}
+use mathlib.Core.Logic.{inl, inr}
+use native.Mathlib.Omega.{arith}
+use lib.ListN.{length, getD}
+use Rattle.rules.specs.Bytes.{at, tabulate}
+use Rattle.rules.specs.Cell.{Positive, cells, card, width, lowest, remap, moved}
+use Rattle.rules.specs.Network.{Record, constant, literal, recordBytes}
+use Rattle.rules.specs.Tree.{Tree, records}
+use Rattle.rules.specs.Stage.{Stage, leftTree}
+use Rattle.laws.proofs.CellLaws.{cells-pos, cell-value, present-lt}
+use Rattle.laws.proofs.LoopLaws.{card-read}
+use Rattle.laws.proofs.LowestLaws.{lowest-present, one-cells}
+use Rattle.laws.proofs.TableLaws.{length-tabulateFrom, tabulate-same, tabulate-self}
+use Rattle.tables.specs.Part.{part, Laid, Apart}
+use Rattle.tables.proofs.PartLaws.{part-at, part-length, laid-part}
+use Rattle.stage_tables.specs.Blocks.{stageOf}
+use Rattle.stage_steps.specs.Ends.{LeafRoom, LeafPut, SpreadRoom, Spreaded}
+use Rattle.stage_steps.specs.Putting.{Put}
+use Rattle.stage_steps.proofs.PutLaws.{put-one, put-as}
+
+-- the record x, where it is the one of step 2 for as many conditions as are left
+leaf-put : (ks w net : List ℕ) (r n : ℕ) (x : Record) (net′ : List ℕ) → width ks ≡ n
+    → ((m : ℕ) (sub : Stage → Tree) (u : List ℕ) → x ∷ [] ≡ records (leftTree m sub n (stageOf ks (record { lower = part w 0 (cells ks); upper = u }))) r)
+    → Laid net (16 * r) (recordBytes x) 16 net′ → LeafPut ks w net r net′
+leaf-put ks w net r n x net′ e q l =
+    record {
+      put = λ m sub u.
+          subst (λ (k : ℕ). Put net r (records (leftTree m sub k (stageOf ks (record { lower = part w 0 (cells ks); upper = u }))) r) net′) (sym e)
+          (put-as (q m sub u) (put-one x l));
+    }
+
+pub leaf-none : {ks w net : List ℕ} {r : ℕ} {net′ : List ℕ} → LeafRoom w net ks r → width ks ≡ 0
+    → Laid net (16 * r) (recordBytes (constant (at w 0))) 16 net′ → LeafPut ks w net r net′
+leaf-none {ks} {w} {net} {r} {net′} p e =
+    leaf-put ks w net r 0 (constant (at w 0)) net′ e
+    (λ m sub u. ap (λ (q : ℕ). constant q ∷ []) (sym (part-at w 0 (cells ks) 0 (cells-pos ks (p .shaped .some)))))
+
+-- one condition left, found at i
+pub record One (w net ks : List ℕ) (r i : ℕ) : Type 0 where
+  pub room : LeafRoom w net ks r
+  pub places : length ks ≡ 8
+  pub some : 1 ≤ width ks
+  pub found : i ≡ lowest ks
+
+module _ {w net ks : List ℕ} {r i : ℕ} (o : One w net ks r i) where
+  pub one-place : i < 8
+  one-place = rw (o .found) (omega (arith, present-lt ks (lowest ks) (lowest-present ks (o .room .shaped .some) (o .some)), o .places))
+
+  one-width : width ks ≡ 1
+  one-width = let s = o .some in let n = o .room .narrow in omega arith
+
+  one-card : getD ks i 0 ≡ card ks (lowest ks)
+  one-card = card-read ks i (let e = o .places in omega (arith, one-place)) ∙ ap (card ks) (o .found)
+
+  one-all : getD ks i 0 ≡ cells ks
+  one-all = one-card ∙ one-cells ks (o .room .shaped .some) one-width
+
+  pub one-room : (16 * r + 16 ≤ length net) × (getD ks i 0 ≤ 8) × (getD ks i 0 ≤ length w)
+  one-room = (o .room .network, rw one-card (o .room .few (lowest ks)), rw one-all (o .room .work))
+
+  pub leaf-one : {net′ : List ℕ} → Laid net (16 * r) (recordBytes (literal i (tabulate (getD ks i 0) (at w)))) 16 net′ → LeafPut ks w net r net′
+  leaf-one {net′} =
+      leaf-put ks w net r 1 (literal i (tabulate (getD ks i 0) (at w))) net′ one-width
+      (λ m sub u.
+      ap (λ (gs : List ℕ). literal i gs ∷ [])
+      (tabulate-same (getD ks i 0) (at w) (at (part w 0 (cells ks))) (λ c l. sym (part-at w 0 (cells ks) c (rw (← one-all) l) ∙ ap (at w) (omega arith))))
+      ∙ rw (one-card, o .found) refl)
+
+-- a table moved to the places it has
+pub moved-self : (ks f : List ℕ) → Positive ks → length f ≡ cells ks → moved ks ks f ≡ f
+moved-self ks f p e =
+    subst (λ (n : ℕ). tabulate n (λ c. at f (remap ks ks c)) ≡ f) e
+    (tabulate-self (λ c. at f (remap ks ks c)) f (λ c l. ap (at f) (cell-value ks c p (omega arith))))
+
+module _ {w ks b : List ℕ} (p : SpreadRoom w ks b) where
+  pub spread-none : b ≡ ks → Spreaded ks b w w
+  spread-none e =
+      record {
+        here =
+            subst (λ (a : List ℕ). part w 0 (cells ks) ≡ moved a ks (part w 0 (cells a))) (sym e)
+            (sym (moved-self ks (part w 0 (cells ks)) (p .shaped .some) (part-length w 0 (cells ks) (let h = p .room in omega arith))));
+        len = refl;
+      }
+
+  -- a copy behind the tables of ks, moved from there
+  module _ {n k : ℕ} (eb : n ≡ cells b) (ek : k ≡ cells ks) where
+    pub copy-room : Apart w 0 n (2 * k) n
+    copy-room = let o = p .own in let h = p .room in record { src = omega arith; dst = omega arith; apart = inl (omega arith) }
+
+    pub moved-room : {v : List ℕ} → Laid w (2 * k) (part w 0 n) n v → Apart v (2 * k) (cells b) 0 (cells ks)
+    moved-room l = let o = p .own in let h = p .room in let q = l .len in record { src = omega arith; dst = omega arith; apart = inr (omega arith) }
+
+    pub spread-some : {v w′ : List ℕ} → Laid w (2 * k) (part w 0 n) n v → Laid v 0 (moved b ks (part v (2 * k) (cells b))) (cells ks) w′ → Spreaded ks b w w′
+    spread-some {v} {w′} l m =
+        let o = p .own in
+        let h = p .room in
+        let q = l .len in
+        let copied : part v (2 * k) n ≡ part w 0 n = laid-part l (omega arith) (part-length w 0 n (omega arith)) in
+        record {
+          here =
+              laid-part m (omega arith) (length-tabulateFrom _ 0 (cells ks))
+              ∙ ap (moved b ks) (subst (λ (x : ℕ). part v (2 * k) x ≡ part w 0 x) eb copied);
+          len = m .len ∙ l .len;
+        }

@@ -1,0 +1,3 @@
+// The steps of a stage that start no stage: what it writes, and its function over its own conditions.
+pub mod ends;
+pub mod values;

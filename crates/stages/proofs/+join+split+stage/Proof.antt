@@ -1,0 +1,563 @@
+-- `stages::+join+split+stage` meets its contract.
+use mathlib.Core.Path.{_≡_, refl, ap, _∙_}
+use mathlib.Core.List.{List}
+use mathlib.Core.Logic.{⊎-elim}
+use Prim.Native.Nat.{ℕ, _+_, _-_, _*_, _≤_, _<_}
+use native.Mathlib.Omega.{arith}
+use lib.ListN.{length, getD}
+use borrow.Author.Needs.{needs}
+use Rattle.rules.specs.Cell.{cells, card, width, singleton, without}
+use Rattle.rules.specs.Stage.{treeOf}
+use Rattle.laws.proofs.TreeLaws.{size-pos}
+use Rattle.grouping.specs.Joining.{stageAt}
+use Rattle.laws.proofs.LoopLaws.{card-read}
+use Rattle.stages.specs.Staging.{Written, Splits}
+use Rattle.stages.proofs.SplitStageLaws.{Axis, Turn, turn-none, lowest-below, all-cells, value-room, child-starts, child-fewer, child-back, gate-room, value-spread, turn-more, copy-room, split-whole}
+use Rattle.stages.proofs.StageEndLaws.{written-here, own-room, fewer, spread-room, whole, leaf-room, leaf-whole, choose-room, splits, split-done, joins, join-done}
+use Rattle.stages.proofs.BlockStageLaws.{first-room, first-starts, first-fewer, first-back, second-room, second-starts, second-fewer, second-back, close-room, joined-whole}
+use borrow.Fn.Kinds.{In}
+use borrow.Fn.PlainCycle.{Measures, is, falls, and}
+use Rattle.stages.proofs.join.Reads as join
+use Rattle.stages.proofs.join.Kinds as join-kinds
+use Rattle.stages.proofs.+join+split+stage.Lts-join as join-lts
+use Rattle.stages.proofs.split.Reads as split
+use Rattle.stages.proofs.split.Kinds as split-kinds
+use Rattle.stages.proofs.+join+split+stage.Lts-split as split-lts
+use Rattle.stages.proofs.stage.Reads as stage
+use Rattle.stages.proofs.stage.Kinds as stage-kinds
+use Rattle.stages.proofs.+join+split+stage.Lts-stage as stage-lts
+use Rattle.places.proofs.cell_count.Reads as cell-count-reads
+use Rattle.places.proofs.sets.lowest.Reads as lowest-reads
+use Rattle.places.proofs.sets.singleton.Reads as singleton-reads
+use Rattle.places.proofs.sets.width.Reads as width-reads
+use Rattle.places.proofs.sets.without.Reads as without-reads
+use Rattle.stage_tables.proofs.drops.drop_all.Reads as drop-all-reads
+use Rattle.stage_tables.proofs.blocks.first_table.Reads as first-table-reads
+use Rattle.stage_tables.proofs.blocks.second_table.Reads as second-table-reads
+use Rattle.stage_tables.proofs.choice.choose.Reads as choose-reads
+use Rattle.stage_steps.proofs.ends.close_join.Reads as close-join-reads
+use Rattle.stage_steps.proofs.ends.leaf.Reads as leaf-reads
+use Rattle.stage_steps.proofs.ends.spread.Reads as spread-reads
+use Rattle.stage_steps.proofs.values.begin_value.Reads as begin-value-reads
+use Rattle.stage_steps.proofs.values.end_value.Reads as end-value-reads
+use Rattle.tables.proofs.fill.copy.Reads as copy-reads
+use Rattle.tables.proofs.moves.uncofactor.Reads as uncofactor-reads
+use Rattle.stages.proofs.+join+split+stage.{statement}
+use Rattle.stages.proofs.+join+split+stage.Tie.{close}
+
+abbrev μ-join : Measures 2 join-kinds.ps ℕ
+μ-join κs a = 2 * width (a .1 .1 .0)
+
+abbrev μ-split : Measures 2 split-kinds.ps ℕ
+μ-split κs a = 2 * width (a .1 .1 .0)
+
+abbrev μ-stage : Measures 2 stage-kinds.ps ℕ
+μ-stage κs a = 2 * width (a .1 .1 .0) + 1
+
+abbrev join-at : ℕ → In 2 join-kinds.ps
+join-at t = and 2 join-kinds.ps (is 2 join-kinds.ps μ-join t) join.Pre
+
+abbrev join-below : ℕ → In 2 join-kinds.ps
+join-below t = and 2 join-kinds.ps (falls 2 join-kinds.ps _<_ μ-join t) join.Pre
+
+abbrev split-at : ℕ → In 2 split-kinds.ps
+split-at t = and 2 split-kinds.ps (is 2 split-kinds.ps μ-split t) split.Pre
+
+abbrev split-below : ℕ → In 2 split-kinds.ps
+split-below t = and 2 split-kinds.ps (falls 2 split-kinds.ps _<_ μ-split t) split.Pre
+
+abbrev stage-at : ℕ → In 2 stage-kinds.ps
+stage-at t = and 2 stage-kinds.ps (is 2 stage-kinds.ps μ-stage t) stage.Pre
+
+abbrev stage-below : ℕ → In 2 stage-kinds.ps
+stage-below t = and 2 stage-kinds.ps (falls 2 stage-kinds.ps _<_ μ-stage t) stage.Pre
+
+-- what `join` asks and learns of the functions that it calls
+abbrev join-claims : ℕ → join-lts.Claims
+join-claims t = (first-table-reads.Asked, first-table-reads.Learnt, stage-below t, stage.Post, second-table-reads.Asked, second-table-reads.Learnt, close-join-reads.Asked, close-join-reads.Learnt)
+
+-- what `split` asks and learns of the functions that it calls
+abbrev split-claims : ℕ → split-lts.Claims
+split-claims t = (lowest-reads.Asked, lowest-reads.Learnt, singleton-reads.Asked, singleton-reads.Learnt, without-reads.Asked, without-reads.Learnt, cell-count-reads.Asked, cell-count-reads.Learnt, begin-value-reads.Asked, begin-value-reads.Learnt, stage-below t, stage.Post, uncofactor-reads.Asked, uncofactor-reads.Learnt, end-value-reads.Asked, end-value-reads.Learnt, copy-reads.Asked, copy-reads.Learnt)
+
+-- what `stage` asks and learns of the functions that it calls
+abbrev stage-claims : ℕ → stage-lts.Claims
+stage-claims t = (cell-count-reads.Asked, cell-count-reads.Learnt, drop-all-reads.Asked, drop-all-reads.Learnt, width-reads.Asked, width-reads.Learnt, leaf-reads.Asked, leaf-reads.Learnt, spread-reads.Asked, spread-reads.Learnt, choose-reads.Asked, choose-reads.Learnt, split-below t, split.Post, join-below t, join.Post)
+
+join-mul-rest : (t : ℕ) → join-lts.Need-mul-rest (join-claims t) (join-at t) join.Post
+join-mul-rest t c =
+    let j = c .before .before .pre .1 .1 in
+    let h = j .left .work in
+    search needs
+
+join-first-table-requires : (t : ℕ) → join-lts.Need-first-table-requires (join-claims t) (join-at t) join.Post
+join-first-table-requires t c κs = first-room (c .before .before .before .pre .1 .1)
+
+join-sub-stage : (t : ℕ) → join-lts.Need-sub-stage (join-claims t) (join-at t) join.Post
+join-sub-stage t c =
+    let h = c .before .before .before .before .before .before .pre .1 .1 .left .work in
+    let e = c .before .before .first-table .ensures .len in
+    omega arith
+
+join-part-stage-start : (t : ℕ) → join-lts.Need-part-stage-start (join-claims t) (join-at t) join.Post
+join-part-stage-start t c =
+    let h = c .before .before .before .before .before .before .pre .1 .1 .left .work in
+    let e = c .before .before .first-table .ensures .len in
+    search needs
+
+join-part-stage-end : (t : ℕ) → join-lts.Need-part-stage-end (join-claims t) (join-at t) join.Post
+join-part-stage-end t c =
+    let h = c .before .before .before .before .before .before .pre .1 .1 .left .work in
+    let e = c .before .before .first-table .ensures .len in
+    search needs
+
+join-stage-requires : (t : ℕ) → join-lts.Need-stage-requires (join-claims t) (join-at t) join.Post
+join-stage-requires t c κs =
+    let j = c .before .before .before .before .before .before .before .before .pre .1 .1 in
+    let f = c .before .before .before .before .first-table .ensures in
+    (let e = c .before .before .before .before .before .before .before .before .pre .0 in let h = first-fewer j f in omega arith, first-starts j f)
+
+join-second-table-requires : (t : ℕ) → join-lts.Need-second-table-requires (join-claims t) (join-at t) join.Post
+join-second-table-requires t c κs =
+    let j = c .before .before .before .before .before .before .before .before .before .before .before .before .before .before .pre .1 .1 in
+    let f = c .before .before .before .before .before .before .before .before .before .before .first-table .ensures in
+    second-room j f (c .before .before .before .before .before .stage .ensures) (first-back j f (c .before .before .before .before .before .stage .ensures))
+
+join-sub-stage-2 : (t : ℕ) → join-lts.Need-sub-stage-2 (join-claims t) (join-at t) join.Post
+join-sub-stage-2 t c =
+    let h = c .before .before .before .before .before .before .before .before .before .before .before .before .before .before .before .before .before .pre .1 .1 .left .work in
+    let k = first-back (c .before .before .before .before .before .before .before .before .before .before .before .before .before .before .before .before .before .pre .1 .1) (c .before .before .before .before .before .before .before .before .before .before .before .before .before .first-table .ensures) (c .before .before .before .before .before .before .before .before .stage .ensures) .len in
+    let e = c .before .before .before .before .before .before .before .before .before .before .before .before .before .first-table .ensures .len in
+    let i = c .before .before .second-table .ensures .len in
+    omega arith
+
+join-part-stage-start-2 : (t : ℕ) → join-lts.Need-part-stage-start-2 (join-claims t) (join-at t) join.Post
+join-part-stage-start-2 t c =
+    let h = c .before .before .before .before .before .before .before .before .before .before .before .before .before .before .before .before .before .pre .1 .1 .left .work in
+    let k = first-back (c .before .before .before .before .before .before .before .before .before .before .before .before .before .before .before .before .before .pre .1 .1) (c .before .before .before .before .before .before .before .before .before .before .before .before .before .first-table .ensures) (c .before .before .before .before .before .before .before .before .stage .ensures) .len in
+    let e = c .before .before .before .before .before .before .before .before .before .before .before .before .before .first-table .ensures .len in
+    let i = c .before .before .second-table .ensures .len in
+    search needs
+
+join-part-stage-end-2 : (t : ℕ) → join-lts.Need-part-stage-end-2 (join-claims t) (join-at t) join.Post
+join-part-stage-end-2 t c =
+    let h = c .before .before .before .before .before .before .before .before .before .before .before .before .before .before .before .before .before .pre .1 .1 .left .work in
+    let k = first-back (c .before .before .before .before .before .before .before .before .before .before .before .before .before .before .before .before .before .pre .1 .1) (c .before .before .before .before .before .before .before .before .before .before .before .before .before .first-table .ensures) (c .before .before .before .before .before .before .before .before .stage .ensures) .len in
+    let e = c .before .before .before .before .before .before .before .before .before .before .before .before .before .first-table .ensures .len in
+    let i = c .before .before .second-table .ensures .len in
+    search needs
+
+join-stage-requires-2 : (t : ℕ) → join-lts.Need-stage-requires-2 (join-claims t) (join-at t) join.Post
+join-stage-requires-2 t c κs =
+    let j = c .before .before .before .before .before .before .before .before .before .before .before .before .before .before .before .before .before .before .before .pre .1 .1 in
+    let f = c .before .before .before .before .before .before .before .before .before .before .before .before .before .before .before .first-table .ensures in
+    let x = c .before .before .before .before .before .before .before .before .before .before .stage .ensures in
+    let k = first-back j f x in
+    let z = c .before .before .before .before .second-table .ensures in
+    (let e = c .before .before .before .before .before .before .before .before .before .before .before .before .before .before .before .before .before .before .before .pre .0 in let h = second-fewer j f x k z in omega arith, second-starts j f x k z)
+
+join-close-join-requires : (t : ℕ) → join-lts.Need-close-join-requires (join-claims t) (join-at t) join.Post
+join-close-join-requires t c κs =
+    let j = c .before .before .before .before .before .before .before .before .before .before .before .before .before .before .before .before .before .before .before .before .before .before .before .before .before .before .pre .1 .1 in
+    let f = c .before .before .before .before .before .before .before .before .before .before .before .before .before .before .before .before .before .before .before .before .before .before .first-table .ensures in
+    let x = c .before .before .before .before .before .before .before .before .before .before .before .before .before .before .before .before .before .stage .ensures in
+    let k = first-back j f x in
+    let z = c .before .before .before .before .before .before .before .before .before .before .before .second-table .ensures in
+    let x′ = c .before .before .before .before .before .before .stage2 .ensures in
+    close-room j f x k z x′ (second-back j f x k z x′)
+
+join-returns : (t : ℕ) → join-lts.Need-returns (join-claims t) (join-at t) join.Post
+join-returns t c =
+    let f = c .before .before .before .before .before .before .before .before .before .before .before .before .before .before .before .before .before .before .before .before .before .before .before .before .before .before .before .first-table .ensures in
+    let x = c .before .before .before .before .before .before .before .before .before .before .before .before .before .before .before .before .before .before .before .before .before .before .stage .ensures in
+    let z = c .before .before .before .before .before .before .before .before .before .before .before .before .before .before .before .before .second-table .ensures in
+    let x′ = c .before .before .before .before .before .before .before .before .before .before .before .stage2 .ensures in
+    record {
+      whole = λ l j.
+          let k = first-back j f x in
+          joined-whole j f x k z x′ (second-back j f x k z x′) (c .before .before .before .before .close-join .ensures);
+    }
+
+join-same-length : (t : ℕ) → join-lts.Need-same-length (join-claims t) (join-at t) join.Post
+join-same-length t c = join-returns t c .whole _ (c .before .before .before .before .before .before .before .before .before .before .before .before .before .before .before .before .before .before .before .before .before .before .before .before .before .before .before .before .before .before .before .pre .1 .1) .len
+
+join-same-length-2 : (t : ℕ) → join-lts.Need-same-length-2 (join-claims t) (join-at t) join.Post
+join-same-length-2 t c = join-returns t c .whole _ (c .before .before .before .before .before .before .before .before .before .before .before .before .before .before .before .before .before .before .before .before .before .before .before .before .before .before .before .before .before .before .before .pre .1 .1) .put .bytes .len
+
+abbrev split-Inv-loop : split-lts.InvT-loop
+split-Inv-loop w₀ network₀ m c r i b n values rest next₀ k₀ w network next k =
+    (k ≤ values) × ((ks : List ℕ) → Splits m ks c w₀ network₀ r → Axis ks i b n values → Turn m ks c w₀ network₀ r k next w network)
+
+abbrev split-μ-loop : split-lts.MeasureT-loop
+split-μ-loop w₀ network₀ m c r i b n values rest next₀ k₀ w network next k = values - k
+
+split-lowest-requires : (t : ℕ) → split-lts.Need-lowest-requires (split-claims t) (split-at t) split.Post split-Inv-loop split-μ-loop
+split-lowest-requires t c κs = tt
+
+-- what it has read off its places
+split-axis : (t : ℕ) (c : split-lts.After-cell-count (split-claims t) (split-at t) split.Post split-Inv-loop split-μ-loop)
+    → Axis (c .before .before .before .before .before .before .args .t3) (c .before .before .before .lowest .result) (c .before .without .result) (c .cell-count .result) (getD (c .before .before .before .before .before .before .args .t3) (c .before .before .before .lowest .result) 0)
+split-axis t c =
+    let ks : List ℕ = c .before .before .before .before .before .before .args .t3 in
+    let e : length ks ≡ 8 = search needs in
+    let i = c .before .before .before .lowest .ensures in
+    let l = lowest-below (c .before .before .before .before .before .before .pre .1) e in
+    record {
+      index = i;
+      places = c .before .without .ensures ∙ ap (λ (s : ℕ). without s ks) (c .before .before .singleton .ensures ∙ ap singleton i);
+      count = c .cell-count .ensures;
+      cardinality = card-read ks (c .before .before .before .lowest .result) (omega arith) ∙ ap (card ks) i;
+    }
+
+split-singleton-requires : (t : ℕ) → split-lts.Need-singleton-requires (split-claims t) (split-at t) split.Post split-Inv-loop split-μ-loop
+split-singleton-requires t c κs =
+    let e : length (c .before .before .before .args .t3) ≡ 8 = search needs in
+    let l = lowest-below (c .before .before .before .pre .1) e in
+    let i = c .lowest .ensures in
+    omega arith
+
+split-without-requires : (t : ℕ) → split-lts.Need-without-requires (split-claims t) (split-at t) split.Post split-Inv-loop split-μ-loop
+split-without-requires t c κs = tt
+
+split-cell-count-requires : (t : ℕ) → split-lts.Need-cell-count-requires (split-claims t) (split-at t) split.Post split-Inv-loop split-μ-loop
+split-cell-count-requires t c κs = tt
+
+split-array-read-values : (t : ℕ) → split-lts.Need-array-read-values (split-claims t) (split-at t) split.Post split-Inv-loop split-μ-loop
+split-array-read-values t c =
+    let e : length (c .before .before .before .before .before .before .args .t3) ≡ 8 = search needs in
+    let l = lowest-below (c .before .before .before .before .before .before .pre .1) e in
+    let i = c .before .before .before .lowest .ensures in
+    omega arith
+
+split-cast-values : (t : ℕ) → split-lts.Need-cast-values (split-claims t) (split-at t) split.Post split-Inv-loop split-μ-loop
+split-cast-values t c = search needs
+
+split-mul-rest : (t : ℕ) → split-lts.Need-mul-rest (split-claims t) (split-at t) split.Post split-Inv-loop split-μ-loop
+split-mul-rest t c = let h = c .before .before .before .before .before .before .pre .1 .left .work in search needs
+
+split-loop-holds : (t : ℕ) → split-lts.Need-loop-holds (split-claims t) (split-at t) split.Post split-Inv-loop split-μ-loop
+split-loop-holds t c = (omega arith, λ ks h a. turn-none _ ks _ _ _ _)
+
+split-cast-begin-value : (t : ℕ) → split-lts.Need-cast-begin-value (split-claims t) (split-at t) split.Post split-Inv-loop split-μ-loop
+split-cast-begin-value t c =
+    let e : length (c .before .before .before .before .before .before .before .before .before .before .args .t3) ≡ 8 = search needs in
+    let l = lowest-below (c .before .before .before .before .before .before .before .before .before .before .pre .1) e in
+    let i = c .before .before .before .before .before .before .before .lowest .ensures in
+    search needs
+
+split-sub-begin-value : (t : ℕ) → split-lts.Need-sub-begin-value (split-claims t) (split-at t) split.Post split-Inv-loop split-μ-loop
+split-sub-begin-value t c = c .before .before .before .before .before .before .before .before .before .before .pre .1 .left .proper .some
+
+split-begin-value-requires : (t : ℕ) → split-lts.Need-begin-value-requires (split-claims t) (split-at t) split.Post split-Inv-loop split-μ-loop
+split-begin-value-requires t c κs =
+    let h = c .before .before .before .before .before .before .before .before .before .before .pre .1 in
+    let a = split-axis t (c .before .before .before .before) in
+    value-room h a (c .before .before .before .loop .inv .1 _ h a) (search needs)
+
+split-sub-stage : (t : ℕ) → split-lts.Need-sub-stage (split-claims t) (split-at t) split.Post split-Inv-loop split-μ-loop
+split-sub-stage t c =
+    let h = c .before .before .before .before .before .before .before .before .before .before .before .before .before .before .before .pre .1 .left .work in
+    let a = c .before .before .before .before .begin-value .ensures .len in
+    let u = c .before .before .before .before .before .before .before .before .loop .inv .1 _ (c .before .before .before .before .before .before .before .before .before .before .before .before .before .before .before .pre .1) (split-axis t (c .before .before .before .before .before .before .before .before .before)) .len in
+    omega arith
+
+split-part-stage-start : (t : ℕ) → split-lts.Need-part-stage-start (split-claims t) (split-at t) split.Post split-Inv-loop split-μ-loop
+split-part-stage-start t c =
+    let h = c .before .before .before .before .before .before .before .before .before .before .before .before .before .before .before .pre .1 .left .work in
+    let a = c .before .before .before .before .begin-value .ensures .len in
+    let u = c .before .before .before .before .before .before .before .before .loop .inv .1 _ (c .before .before .before .before .before .before .before .before .before .before .before .before .before .before .before .pre .1) (split-axis t (c .before .before .before .before .before .before .before .before .before)) .len in
+    search needs
+
+split-part-stage-end : (t : ℕ) → split-lts.Need-part-stage-end (split-claims t) (split-at t) split.Post split-Inv-loop split-μ-loop
+split-part-stage-end t c =
+    let h = c .before .before .before .before .before .before .before .before .before .before .before .before .before .before .before .pre .1 .left .work in
+    let a = c .before .before .before .before .begin-value .ensures .len in
+    let u = c .before .before .before .before .before .before .before .before .loop .inv .1 _ (c .before .before .before .before .before .before .before .before .before .before .before .before .before .before .before .pre .1) (split-axis t (c .before .before .before .before .before .before .before .before .before)) .len in
+    search needs
+
+split-add-stage : (t : ℕ) → split-lts.Need-add-stage (split-claims t) (split-at t) split.Post split-Inv-loop split-μ-loop
+split-add-stage t c =
+    let h = c .before .before .before .before .before .before .before .before .before .before .before .before .before .before .before .before .before .pre .1 in
+    let a = split-axis t (c .before .before .before .before .before .before .before .before .before .before .before) in
+    let s = child-starts h a (c .before .before .before .before .before .before .before .before .before .before .loop .inv .1 _ h a) (search needs) (c .before .before .before .before .before .before .begin-value .ensures) .fits .numbers in
+    search needs
+
+split-stage-requires : (t : ℕ) → split-lts.Need-stage-requires (split-claims t) (split-at t) split.Post split-Inv-loop split-μ-loop
+split-stage-requires t c κs =
+    let h = c .before .before .before .before .before .before .before .before .before .before .before .before .before .before .before .before .before .pre .1 in
+    let a = split-axis t (c .before .before .before .before .before .before .before .before .before .before .before) in
+    let u = c .before .before .before .before .before .before .before .before .before .before .loop .inv .1 _ h a in
+    let lt : c .before .before .before .before .before .before .before .before .before .before .loop .k < getD (c .before .before .before .before .before .before .before .before .before .before .before .before .before .before .before .before .before .args .t3) (c .before .before .before .before .before .before .before .before .before .before .before .before .before .before .lowest .result) 0 = search needs in
+    let g = c .before .before .before .before .before .before .begin-value .ensures in
+    (let e = c .before .before .before .before .before .before .before .before .before .before .before .before .before .before .before .before .before .pre .0 in let f = child-fewer h a u lt g in omega arith, child-starts h a u lt g)
+
+split-mul-uncofactor : (t : ℕ) → split-lts.Need-mul-uncofactor (split-claims t) (split-at t) split.Post split-Inv-loop split-μ-loop
+split-mul-uncofactor t c = let h = c .before .before .before .before .before .before .before .before .before .before .before .before .before .before .before .before .before .before .before .before .before .before .before .pre .1 .left .work in search needs
+
+split-uncofactor-requires : (t : ℕ) → split-lts.Need-uncofactor-requires (split-claims t) (split-at t) split.Post split-Inv-loop split-μ-loop
+split-uncofactor-requires t c κs =
+    let h = c .before .before .before .before .before .before .before .before .before .before .before .before .before .before .before .before .before .before .before .before .before .before .before .pre .1 in
+    let a = split-axis t (c .before .before .before .before .before .before .before .before .before .before .before .before .before .before .before .before .before) in
+    let u = c .before .before .before .before .before .before .before .before .before .before .before .before .before .before .before .before .loop .inv .1 _ h a in
+    let lt : c .before .before .before .before .before .before .before .before .before .before .before .before .before .before .before .before .loop .k < getD (c .before .before .before .before .before .before .before .before .before .before .before .before .before .before .before .before .before .before .before .before .before .before .before .args .t3) (c .before .before .before .before .before .before .before .before .before .before .before .before .before .before .before .before .before .before .before .before .lowest .result) 0 = search needs in
+    let g = c .before .before .before .before .before .before .before .before .before .before .before .before .begin-value .ensures in
+    let y = c .before .before .before .before .before .stage .ensures in
+    (lt, value-spread h a u lt g y (child-back h a u lt g y))
+
+split-end-value-requires : (t : ℕ) → split-lts.Need-end-value-requires (split-claims t) (split-at t) split.Post split-Inv-loop split-μ-loop
+split-end-value-requires t c κs =
+    let h = c .before .before .before .before .before .before .before .before .before .before .before .before .before .before .before .before .before .before .before .before .before .before .before .before .before .before .before .pre .1 in
+    let a = split-axis t (c .before .before .before .before .before .before .before .before .before .before .before .before .before .before .before .before .before .before .before .before .before) in
+    let u = c .before .before .before .before .before .before .before .before .before .before .before .before .before .before .before .before .before .before .before .before .loop .inv .1 _ h a in
+    let lt : c .before .before .before .before .before .before .before .before .before .before .before .before .before .before .before .before .before .before .before .before .loop .k < getD (c .before .before .before .before .before .before .before .before .before .before .before .before .before .before .before .before .before .before .before .before .before .before .before .before .before .before .before .args .t3) (c .before .before .before .before .before .before .before .before .before .before .before .before .before .before .before .before .before .before .before .before .before .before .before .before .lowest .result) 0 = search needs in
+    gate-room h a u lt (c .before .before .before .before .before .before .before .before .before .before .before .before .before .before .before .before .begin-value .ensures) (c .before .before .before .before .before .before .before .before .before .stage .ensures)
+
+split-add-k : (t : ℕ) → split-lts.Need-add-k (split-claims t) (split-at t) split.Post split-Inv-loop split-μ-loop
+split-add-k t c =
+    let h = c .before .before .before .before .before .before .before .before .before .before .before .before .before .before .before .before .before .before .before .before .before .before .before .before .before .before .before .before .before .before .pre .1 in
+    let a = split-axis t (c .before .before .before .before .before .before .before .before .before .before .before .before .before .before .before .before .before .before .before .before .before .before .before .before) in
+    let lt : c .before .before .before .before .before .before .before .before .before .before .before .before .before .before .before .before .before .before .before .before .before .before .before .loop .k < getD (c .before .before .before .before .before .before .before .before .before .before .before .before .before .before .before .before .before .before .before .before .before .before .before .before .before .before .before .before .before .before .args .t3) (c .before .before .before .before .before .before .before .before .before .before .before .before .before .before .before .before .before .before .before .before .before .before .before .before .before .before .before .lowest .result) 0 = search needs in
+    let f = value-room h a (c .before .before .before .before .before .before .before .before .before .before .before .before .before .before .before .before .before .before .before .before .before .before .before .loop .inv .1 _ h a) lt .few in
+    search needs
+
+split-loop-less : (t : ℕ) → split-lts.Need-loop-less (split-claims t) (split-at t) split.Post split-Inv-loop split-μ-loop
+split-loop-less t c = search needs
+
+split-loop-again : (t : ℕ) → split-lts.Need-loop-again (split-claims t) (split-at t) split.Post split-Inv-loop split-μ-loop
+split-loop-again t c =
+    let lt : c .before .before .before .before .before .before .before .before .before .before .before .before .before .before .before .before .before .before .before .before .before .before .before .loop .k < getD (c .before .before .before .before .before .before .before .before .before .before .before .before .before .before .before .before .before .before .before .before .before .before .before .before .before .before .before .before .before .before .args .t3) (c .before .before .before .before .before .before .before .before .before .before .before .before .before .before .before .before .before .before .before .before .before .before .before .before .before .before .before .lowest .result) 0 = search needs in (
+      omega arith,
+      λ ks h a.
+          let u = c .before .before .before .before .before .before .before .before .before .before .before .before .before .before .before .before .before .before .before .before .before .before .before .loop .inv .1 ks h a in
+          let g = c .before .before .before .before .before .before .before .before .before .before .before .before .before .before .before .before .before .before .before .begin-value .ensures in
+          let y = c .before .before .before .before .before .before .before .before .before .before .before .before .stage .ensures in
+          turn-more h a u lt g y (child-back h a u lt g y) (c .before .before .before .before .before .before .uncofactor .ensures) (c .before .before .end-value .ensures),
+    )
+
+split-mul-copy : (t : ℕ) → split-lts.Need-mul-copy (split-claims t) (split-at t) split.Post split-Inv-loop split-μ-loop
+split-mul-copy t c = let h = c .before .before .before .before .before .before .before .before .before .pre .1 .left .work in search needs
+
+split-mul-copy-2 : (t : ℕ) → split-lts.Need-mul-copy-2 (split-claims t) (split-at t) split.Post split-Inv-loop split-μ-loop
+split-mul-copy-2 t c =
+    let h = c .before .before .before .before .before .before .before .before .before .pre .1 .left .own .own in
+    let w = c .before .before .before .before .before .before .before .before .before .pre .1 .left .work in
+    let a = all-cells (c .before .before .before .before .before .before .before .before .before .pre .1) (split-axis t (c .before .before .before)) in
+    search needs
+
+split-copy-requires : (t : ℕ) → split-lts.Need-copy-requires (split-claims t) (split-at t) split.Post split-Inv-loop split-μ-loop
+split-copy-requires t c κs =
+    let h = c .before .before .before .before .before .before .before .before .before .pre .1 in
+    let a = split-axis t (c .before .before .before) in
+    let l = c .before .before .loop .inv .0 in
+    copy-room h a (c .before .before .loop .inv .1 _ h a) (omega arith)
+
+split-returns : (t : ℕ) → split-lts.Need-returns (split-claims t) (split-at t) split.Post split-Inv-loop split-μ-loop
+split-returns t c =
+    let h = c .before .before .before .before .before .before .before .before .before .before .before .before .pre .1 in
+    let a = split-axis t (c .before .before .before .before .before .before) in
+    let l = c .before .before .before .before .before .loop .inv .0 in
+    split-whole h a (c .before .before .before .before .before .loop .inv .1 _ h a) (omega arith) (c .before .before .copy .ensures)
+
+split-same-length : (t : ℕ) → split-lts.Need-same-length (split-claims t) (split-at t) split.Post split-Inv-loop split-μ-loop
+split-same-length t c = split-returns t c .len
+
+split-same-length-2 : (t : ℕ) → split-lts.Need-same-length-2 (split-claims t) (split-at t) split.Post split-Inv-loop split-μ-loop
+split-same-length-2 t c = split-returns t c .put .bytes .len
+
+stage-cell-count-requires : (t : ℕ) → stage-lts.Need-cell-count-requires (stage-claims t) (stage-at t) stage.Post
+stage-cell-count-requires t c κs = tt
+
+stage-drop-all-requires : (t : ℕ) → stage-lts.Need-drop-all-requires (stage-claims t) (stage-at t) stage.Post
+stage-drop-all-requires t c κs = own-room (c .before .before .before .before .pre .1) (c .before .cell-count .ensures)
+
+stage-width-requires : (t : ℕ) → stage-lts.Need-width-requires (stage-claims t) (stage-at t) stage.Post
+stage-width-requires t c κs = tt
+
+stage-leaf-requires : (t : ℕ) → stage-lts.Need-leaf-requires (stage-claims t) (stage-at t) stage.Post
+stage-leaf-requires t c κs =
+    let n : width (c .before .before .before .before .before .before .drop-all .result) < 2 = search needs in
+    leaf-room (c .before .before .before .before .before .before .before .before .before .before .before .pre .1) (c .before .before .before .before .before .before .before .before .cell-count .ensures) (c .before .before .before .before .before .before .drop-all .ensures) n
+
+stage-spread-requires : (t : ℕ) → stage-lts.Need-spread-requires (stage-claims t) (stage-at t) stage.Post
+stage-spread-requires t c κs = spread-room (c .before .before .before .before .before .before .before .before .before .before .before .before .before .before .before .pre .1) (c .before .before .before .before .before .before .before .before .before .before .before .before .cell-count .ensures) (c .before .before .before .before .before .before .before .before .before .before .drop-all .ensures) refl
+
+stage-add-result : (t : ℕ) → stage-lts.Need-add-result (stage-claims t) (stage-at t) stage.Post
+stage-add-result t c =
+    let s = c .before .before .before .before .before .before .before .before .before .before .before .before .before .before .before .before .before .before .pre .1 .fits .numbers in
+    let p = size-pos (treeOf (c .before .before .before .before .before .before .before .before .before .before .before .before .before .before .before .before .before .before .args .m) (stageAt (c .before .before .before .before .before .before .before .before .before .before .before .before .before .before .before .before .before .before .args .ks) (c .before .before .before .before .before .before .before .before .before .before .before .before .before .before .before .before .before .before .args .w .now) 0 (cells (c .before .before .before .before .before .before .before .before .before .before .before .before .before .before .before .before .before .before .args .ks)))) in
+    search needs
+
+stage-returns : (t : ℕ) → stage-lts.Need-returns (stage-claims t) (stage-at t) stage.Post
+stage-returns t c =
+    let n : width (c .before .before .before .before .before .before .before .before .before .before .before .before .before .drop-all .result) < 2 = search needs in
+    leaf-whole (c .before .before .before .before .before .before .before .before .before .before .before .before .before .before .before .before .before .before .pre .1) (c .before .before .before .before .before .before .before .before .before .before .before .before .before .before .before .cell-count .ensures) (c .before .before .before .before .before .before .before .before .before .before .before .before .before .drop-all .ensures) n (c .before .before .before .before .before .before .leaf .ensures) (c .before .before .spread .ensures)
+
+stage-same-length : (t : ℕ) → stage-lts.Need-same-length (stage-claims t) (stage-at t) stage.Post
+stage-same-length t c = stage-returns t c .len
+
+stage-same-length-2 : (t : ℕ) → stage-lts.Need-same-length-2 (stage-claims t) (stage-at t) stage.Post
+stage-same-length-2 t c = stage-returns t c .put .bytes .len
+
+stage-choose-requires : (t : ℕ) → stage-lts.Need-choose-requires (stage-claims t) (stage-at t) stage.Post
+stage-choose-requires t c κs = choose-room (c .before .before .before .before .before .before .before .before .before .before .pre .1) (c .before .before .before .before .before .before .before .cell-count .ensures) (c .before .before .before .before .before .drop-all .ensures)
+
+stage-enum-told : (t : ℕ) → stage-lts.Need-enum-told (stage-claims t) (stage-at t) stage.Post
+stage-enum-told t c = search needs
+
+stage-split-requires : (t : ℕ) → stage-lts.Need-split-requires (stage-claims t) (stage-at t) stage.Post
+stage-split-requires t c κs =
+    let s = c .before .before .before .before .before .before .before .before .before .before .before .before .before .before .before .before .before .pre .1 in
+    let q = c .before .before .before .before .before .before .before .before .before .before .before .before .before .before .cell-count .ensures in
+    let d = c .before .before .before .before .before .before .before .before .before .before .before .before .drop-all .ensures in
+    let n : 2 ≤ width (c .before .before .before .before .before .before .before .before .before .before .before .before .drop-all .result) = search needs in
+    (let e = c .before .before .before .before .before .before .before .before .before .before .before .before .before .before .before .before .before .pre .0 in let f = fewer s q d in omega arith, splits s q d n (c .before .before .before .before .before .before .choose .ensures) (c .before .before .enum-told .given .1))
+
+stage-enum-known-gate : (t : ℕ) → stage-lts.Need-enum-known-gate (stage-claims t) (stage-at t) stage.Post
+stage-enum-known-gate t c = search needs
+
+stage-join-requires : (t : ℕ) → stage-lts.Need-join-requires (stage-claims t) (stage-at t) stage.Post
+stage-join-requires t c κs =
+    let s = c .before .before .before .before .before .before .before .before .before .before .before .before .before .before .before .before .before .before .pre .1 in
+    let q = c .before .before .before .before .before .before .before .before .before .before .before .before .before .before .before .cell-count .ensures in
+    let d = c .before .before .before .before .before .before .before .before .before .before .before .before .before .drop-all .ensures in
+    let n : 2 ≤ width (c .before .before .before .before .before .before .before .before .before .before .before .before .before .drop-all .result) = search needs in
+    (let e = c .before .before .before .before .before .before .before .before .before .before .before .before .before .before .before .before .before .before .pre .0 in let f = fewer s q d in omega arith, (_, joins s q d n (c .before .before .before .before .before .before .before .choose .ensures) (c .before .before .before .gate .given .1)))
+
+-- the network of the conditions left, whichever way it came
+stage-came : (t : ℕ) (c : stage-lts.At-match-came (stage-claims t) (stage-at t) stage.Post)
+    → let a = c .before .before .before .before .before .before .before .before .before .before .before .before .before .before .args in
+    Written (c .before .before .before .before .before .before .before .before .before .drop-all .result) (treeOf (a .m) (stageAt (a .ks) (a .w .now) 0 (cells (a .ks)))) (c .before .before .before .choose .last .0) (a .network .now) (a .r) (c .match .e) (c .match .w) (c .match .network)
+stage-came t c =
+    let s = c .before .before .before .before .before .before .before .before .before .before .before .before .before .before .pre .1 in
+    let q = c .before .before .before .before .before .before .before .before .before .before .before .cell-count .ensures in
+    let d = c .before .before .before .before .before .before .before .before .before .drop-all .ensures in
+    let n : 2 ≤ width (c .before .before .before .before .before .before .before .before .before .drop-all .result) = search needs in
+    let o = c .before .before .before .choose .ensures in
+    ⊎-elim
+    (λ p. written-here (p .9) (p .10) (p .11) (split-done s q d n o (p .1 .given .1) (p .4 .ensures)))
+    (λ p. written-here (p .10) (p .11) (p .12) (join-done s q d n o (p .1 .given .1) (p .5 .ensures)))
+    (c .match .came)
+
+stage-spread-requires-2 : (t : ℕ) → stage-lts.Need-spread-requires-2 (stage-claims t) (stage-at t) stage.Post
+stage-spread-requires-2 t c κs =
+    spread-room (c .before .before .before .before .before .before .before .before .before .before .before .before .before .before .before .pre .1) (c .before .before .before .before .before .before .before .before .before .before .before .before .cell-count .ensures) (c .before .before .before .before .before .before .before .before .before .before .drop-all .ensures) (stage-came t (c .before) .len ∙ c .before .before .before .before .choose .ensures .len)
+
+stage-returns-2 : (t : ℕ) → stage-lts.Need-returns-2 (stage-claims t) (stage-at t) stage.Post
+stage-returns-2 t c =
+    whole (c .before .before .before .before .before .before .before .before .before .before .before .before .before .before .before .before .before .before .pre .1) (c .before .before .before .before .before .before .before .before .before .before .before .before .before .before .before .cell-count .ensures) (c .before .before .before .before .before .before .before .before .before .before .before .before .before .drop-all .ensures) (c .before .before .before .before .before .before .before .choose .ensures .len) (stage-came t (c .before .before .before .before)) (c .before .before .spread2 .ensures)
+
+stage-same-length-3 : (t : ℕ) → stage-lts.Need-same-length-3 (stage-claims t) (stage-at t) stage.Post
+stage-same-length-3 t c = stage-returns-2 t c .len
+
+stage-same-length-4 : (t : ℕ) → stage-lts.Need-same-length-4 (stage-claims t) (stage-at t) stage.Post
+stage-same-length-4 t c = stage-returns-2 t c .put .bytes .len
+
+pub +join+split+stage-spec : {M : Type 1} → statement M
++join+split+stage-spec = close μ-join μ-split μ-stage (λ t. join-lts.spec (join-claims t)
+    (join-at t)
+    join.Post
+    (join-mul-rest t)
+    (join-first-table-requires t)
+    (join-sub-stage t)
+    (join-part-stage-start t)
+    (join-part-stage-end t)
+    (join-stage-requires t)
+    (join-second-table-requires t)
+    (join-sub-stage-2 t)
+    (join-part-stage-start-2 t)
+    (join-part-stage-end-2 t)
+    (join-stage-requires-2 t)
+    (join-close-join-requires t)
+    (join-same-length t)
+    (join-same-length-2 t)
+    (join-returns t))
+    (λ t. split-lts.spec (
+      lowest-reads.Asked,
+      lowest-reads.Learnt,
+      singleton-reads.Asked,
+      singleton-reads.Learnt,
+      without-reads.Asked,
+      without-reads.Learnt,
+      cell-count-reads.Asked,
+      cell-count-reads.Learnt,
+      begin-value-reads.Asked,
+      begin-value-reads.Learnt,
+      stage-below t,
+      stage.Post,
+      uncofactor-reads.Asked,
+      uncofactor-reads.Learnt,
+      end-value-reads.Asked,
+      end-value-reads.Learnt,
+      copy-reads.Asked,
+      copy-reads.Learnt,
+    )
+    (split-at t)
+    split.Post
+    split-Inv-loop
+    split-μ-loop
+    (split-lowest-requires t)
+    (split-singleton-requires t)
+    (split-without-requires t)
+    (split-cell-count-requires t)
+    (split-array-read-values t)
+    (split-cast-values t)
+    (split-mul-rest t)
+    (split-loop-holds t)
+    (split-cast-begin-value t)
+    (split-sub-begin-value t)
+    (split-begin-value-requires t)
+    (split-sub-stage t)
+    (split-part-stage-start t)
+    (split-part-stage-end t)
+    (split-add-stage t)
+    (split-stage-requires t)
+    (split-mul-uncofactor t)
+    (split-uncofactor-requires t)
+    (split-end-value-requires t)
+    (split-add-k t)
+    (split-loop-less t)
+    (split-loop-again t)
+    (split-mul-copy t)
+    (split-mul-copy-2 t)
+    (split-copy-requires t)
+    (split-same-length t)
+    (split-same-length-2 t)
+    (split-returns t))
+    λ t. stage-lts.spec (
+      cell-count-reads.Asked,
+      cell-count-reads.Learnt,
+      drop-all-reads.Asked,
+      drop-all-reads.Learnt,
+      width-reads.Asked,
+      width-reads.Learnt,
+      leaf-reads.Asked,
+      leaf-reads.Learnt,
+      spread-reads.Asked,
+      spread-reads.Learnt,
+      choose-reads.Asked,
+      choose-reads.Learnt,
+      split-below t,
+      split.Post,
+      join-below t,
+      join.Post,
+    )
+    (stage-at t)
+    stage.Post
+    (stage-cell-count-requires t)
+    (stage-drop-all-requires t)
+    (stage-width-requires t)
+    (stage-leaf-requires t)
+    (stage-spread-requires t)
+    (stage-add-result t)
+    (stage-same-length t)
+    (stage-same-length-2 t)
+    (stage-returns t)
+    (stage-choose-requires t)
+    (stage-enum-told t)
+    (stage-split-requires t)
+    (stage-enum-known-gate t)
+    (stage-join-requires t)
+    (stage-spread-requires-2 t)
+    (stage-same-length-3 t)
+    (stage-same-length-4 t)
+    (stage-returns-2 t)

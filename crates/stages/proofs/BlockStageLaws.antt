@@ -1,0 +1,296 @@
+-- 01, Stages, step 5: a join's two stages, one behind the other.
+use Prim.Native.Nat.{ℕ, _+_, _-_, _*_, _≤_, _<_}
+use mathlib.Core.Path.{_≡_, sym, _∙_, ap, ap₂, subst}
+use mathlib.Core.List.{List, [], _∷_, _++_}
+use native.Mathlib.Nat.{le-trans}
+use native.Mathlib.Omega.{arith}
+use borrow.Rule.Slice.PartMut.{putMid}
+use lib.ListN.{length, length-append}
+use Rattle.rules.specs.declared.Gate.{Gate}
+use Rattle.rules.specs.Bytes.{at, tabulate}
+use Rattle.rules.specs.Cell.{cells, width, value, without, moved}
+use Rattle.rules.specs.Limits.{Limits}
+use Rattle.rules.specs.Join.{exchangeFor}
+use Rattle.rules.specs.Network.{gate, combine}
+use Rattle.rules.specs.Tree.{Tree, gated, size, records}
+use Rattle.rules.specs.Stage.{Stage, firstStage, secondStage, computed, joinTree, treeOf}
+use Rattle.rules.specs.Demands.{Admits}
+use Rattle.laws.proofs.CellLaws.{without-lt, without-half}
+use Rattle.laws.proofs.GateLaws.{Good, exchangeFor-good}
+use Rattle.laws.proofs.JoinLaws.{uA-under, uB-under}
+use Rattle.laws.proofs.TreeLaws.{computed-at, made-below, size-pos, length-records}
+use Rattle.laws.proofs.StageLaws.{Ready, admitted, network-ok, first-ready, second-ready, first-inside}
+use Rattle.laws.proofs.FunctionLaws.{first-moved, joined}
+use Rattle.tables.specs.Part.{part}
+use Rattle.tables.proofs.PartLaws.{part-at}
+use Rattle.join.specs.Parts.{Below}
+use Rattle.grouping.specs.Joining.{stageAt}
+use Rattle.stage_tables.specs.Working.{ForSecond}
+use Rattle.stage_tables.specs.Blocks.{stageOf, FirstRoom, FirstLaid, SecondRoom, SecondLaid}
+use Rattle.stage_tables.proofs.DropLaws.{fewer-shaped, as-shaped}
+use Rattle.stage_steps.specs.Putting.{Put}
+use Rattle.stage_steps.specs.Ends.{CloseRoom, Closed}
+use Rattle.stage_steps.proofs.PutLaws.{put-then, put-as}
+use Rattle.stages.specs.Staging.{Starts, Written, Joins}
+use Rattle.stages.proofs.LentLaws.{rest, rest-length, rest-stage, Back, back, back-front, back-behind}
+use Rattle.stages.proofs.ChildLaws.{proper-ready, few-without, starts-as, written-as}
+
+part-below : {w : List ℕ} {a n m : ℕ} (t : List ℕ) → part w a n ≡ t → ((c : ℕ) → c < n → at t c ≤ m - 1) → Below w a n m
+part-below {w} {a} {n} {m} t e h =
+    record { grade = λ c lt. subst (λ (x : ℕ). x ≤ m - 1) (ap (λ (f : List ℕ). at f c) (sym e) ∙ part-at w a n c lt) (h c lt) }
+
+-- the records of two trees, and then the gate over them
+gate-put : {net : List ℕ} {r e n : ℕ} {v u net′ : List ℕ} {by : Gate} (a b : Tree) → Put net r (records a r) v → e ≡ r + size a → Put v e (records b e) u → n ≡ e + size b
+    → Put u n (gate by (e - 1) (n - 1) ∷ []) net′ → Put net r (records (gated by a b) r) net′
+gate-put {net} {r} {e} {n} {v} {u} {net′} {by} a b p q o i h =
+    let f : n ≡ r + length (records a r ++ records b e) = omega (arith, length-append (records a r) (records b e), length-records a r, length-records b e) in
+    let d : e ≡ r + length (records a r) = omega (arith, length-records a r) in
+    let k : n ≡ r + size a + size b = omega arith in
+    put-as (ap₂ (λ (x z : ℕ). (records a r ++ records b x) ++ (gate by (x - 1) (z - 1) ∷ [])) q k) (put-then f (put-then d p o) h)
+
+module _ {gate : Gate} {m : ℕ} {ks : List ℕ} {l : Limits} {s t c : ℕ} {w net : List ℕ} {r : ℕ} (j : Joins gate m (stageOf ks l) s t c w net r) where
+  abbrev y : Stage
+  y = stageOf ks l
+
+  ready : Ready m y
+  ready = proper-ready (j .left .own .shaped .some) (j .left .proper)
+
+  admits : Admits m y gate s t
+  admits = admitted m y gate s t (j .chosen)
+
+  abbrev A : Stage
+  A = firstStage m gate s t y
+
+  abbrev g : List ℕ
+  g = computed ks (treeOf m A)
+
+  abbrev B : Stage
+  B = secondStage m gate s t y g
+
+  -- each has half of the cells at most
+  half-first : 2 * cells (without t ks) ≤ cells ks
+  half-first = let a = admits .sets .some-t in without-half t ks (a .0) (ready .pos) (admits .sets .in-t (a .0) (a .1)) (a .1)
+
+  half-second : 2 * cells (without s ks) ≤ cells ks
+  half-second = let a = admits .sets .some-s in without-half s ks (a .0) (ready .pos) (admits .sets .in-s (a .0) (a .1)) (a .1)
+
+  good : Good ks m (exchangeFor gate ks m l)
+  good = exchangeFor-good ks m gate l (ready .good)
+
+  lows-below : {v : List ℕ} → ForSecond gate m y s t c v → Below v 0 (cells ks) m
+  lows-below f = part-below (exchangeFor gate ks m l .lower) (f .lows) (λ k h. le-trans (good .room k h) (good .top k h))
+
+  pub first-room : FirstRoom w ks m t c
+  first-room =
+      let h = half-first in
+      let o = j .left .own .own in
+      let q = j .left .work in
+      record {
+        own = j .left .own;
+        space = omega arith;
+        some = ready .grades;
+        lows = lows-below (j .tables .second);
+        firsts =
+            part-below _ (j .tables .firsts) (λ k h. le-trans (uA-under ks s t (exchangeFor gate ks m l .lower) (exchangeFor gate ks m l .upper) k h) (good .top k h));
+      }
+
+  -- the first block's stage
+  module _ {a w₁ : List ℕ} (f : FirstLaid gate m ks t c w a w₁) where
+    first-stage : stageAt a (rest (8 * c) w₁) 0 (cells a) ≡ A
+    first-stage =
+        let h = half-first in
+        let o = j .left .own .own in
+        let q = j .left .work in
+        let e = ap cells (f .places) in
+        let n = f .len in
+        rest-stage (8 * c) a w₁ (omega arith) ∙ f .stage s l (j .tables)
+
+    pub first-starts : Starts m a (rest (8 * c) w₁) net r
+    first-starts =
+        let h = half-first in
+        let o = j .left .own .own in
+        let q = j .left .work in
+        let n = f .len in
+        let k = rest-length (8 * c) w₁ in
+        let i = j .fits .numbers in
+        let u = j .fits .room in
+        starts-as m A first-stage (fewer-shaped t (j .left .own .shaped)) (few-without t ks (j .left .few)) (omega arith)
+        (first-ready m gate s t y ready admits) (record { numbers = omega arith; room = omega arith })
+
+    pub first-fewer : 2 * width a + 1 < 2 * width ks
+    first-fewer =
+        let b = admits .sets .some-t in
+        let e = ap width (f .places) in
+        let h = without-lt t ks (b .0) (admits .sets .in-t (b .0) (b .1)) (b .1) in
+        omega arith
+
+    pub first-back : {v net₁ : List ℕ} {e₁ : ℕ} → Written a (treeOf m (stageAt a (rest (8 * c) w₁) 0 (cells a))) (rest (8 * c) w₁) net r e₁ v net₁
+        → Back (8 * c) w₁ v (putMid (8 * c) (length w₁ - 8 * c) w₁ v)
+    first-back x = let q = j .left .work in let n = f .len in back (8 * c) w₁ _ (omega arith) (x .len)
+
+    -- once it is done
+    module _ {v net₁ w₂ : List ℕ} {e₁ : ℕ} (x : Written a (treeOf m (stageAt a (rest (8 * c) w₁) 0 (cells a))) (rest (8 * c) w₁) net r e₁ v net₁) (k : Back (8 * c) w₁ v w₂) where
+      first-done : Written (A .ks) (treeOf m A) (rest (8 * c) w₁) net r e₁ v net₁
+      first-done = written-as m A first-stage x
+
+      same-length : length w₂ ≡ length w
+      same-length = k .len ∙ f .len
+
+      kept-part : (i : ℕ) → i + cells ks ≤ 8 * c → part w₂ i (cells ks) ≡ part w₁ i (cells ks)
+      kept-part i h = let q = j .left .work in let n = f .len in back-front i (cells ks) k h (omega arith)
+
+      second-tables : ForSecond gate m y s t c w₂
+      second-tables =
+          let o = j .left .own .own in
+          let u = f .second s l (j .tables .second) in
+          record { lows = kept-part 0 (omega arith) ∙ u .lows; seconds = kept-part (5 * c) (omega arith) ∙ u .seconds }
+
+      block-here : part w₂ (8 * c) (cells a) ≡ computed (A .ks) (treeOf m A)
+      block-here =
+          let h = half-first in
+          let o = j .left .own .own in
+          let q = j .left .work in
+          let n = f .len in
+          let e = ap cells (f .places) in
+          let b = k .long in
+          back-behind (cells a) k (omega arith) (omega arith) ∙ ap (part v 0) e ∙ first-done .function
+
+      given : moved a ks (part w₂ (8 * c) (cells a)) ≡ g
+      given = ap₂ (λ (p q : List ℕ). moved p ks q) (f .places) block-here ∙ sym (first-moved m y ready gate s t admits)
+
+      grade-below : (i : ℕ) → i < cells a → at (computed (A .ks) (treeOf m A)) i ≤ m - 1
+      grade-below i h =
+          let e = ap cells (f .places) in
+          let b = made-below (A .ks) m (treeOf m A) (network-ok m A (first-ready m gate s t y ready admits) .made) (value (A .ks) i) in
+          let q = computed-at (A .ks) (treeOf m A) i (omega arith) in
+          omega arith
+
+      pub second-room : SecondRoom w₂ ks a m s c
+      second-room =
+          let h = half-first in
+          let h′ = half-second in
+          let o = j .left .own .own in
+          let q = j .left .work in
+          let e = ap cells (f .places) in
+          let n = same-length in
+          record {
+            own = record { shaped = j .left .own .shaped; own = o; room = omega arith };
+            shaped = as-shaped (f .places) (fewer-shaped t (j .left .own .shaped));
+            block = omega arith;
+            space = omega arith;
+            some = ready .grades;
+            lows = lows-below second-tables;
+            seconds =
+                part-below _ (second-tables .seconds)
+                (λ i h. le-trans (uB-under ks s t (exchangeFor gate ks m l .lower) (exchangeFor gate ks m l .upper) i h) (good .top i h));
+            grades = part-below _ block-here grade-below;
+          }
+
+      -- the second block's stage
+      module _ {b w₃ : List ℕ} (z : SecondLaid gate m ks a s c w₂ b w₃) where
+        whole-length : length w₃ ≡ length w
+        whole-length = z .len ∙ same-length
+
+        second-stage : stageAt b (rest (8 * c) w₃) 0 (cells b) ≡ B
+        second-stage =
+            let h = half-second in
+            let o = j .left .own .own in
+            let q = j .left .work in
+            let e = ap cells (z .places) in
+            let n = whole-length in
+            rest-stage (8 * c) b w₃ (omega arith) ∙ z .stage t l second-tables ∙ ap (secondStage m gate s t y) given
+
+        second-ready-here : Ready m B
+        second-ready-here = second-ready m gate s t y ready admits g (first-inside m (treeOf m) (width ks) (λ z h q. network-ok m z q) y (omega arith) ready gate s t admits)
+
+        pub second-starts : Starts m b (rest (8 * c) w₃) net₁ e₁
+        second-starts =
+            let h = half-second in
+            let o = j .left .own .own in
+            let q = j .left .work in
+            let n = whole-length in
+            let k = rest-length (8 * c) w₃ in
+            let i = j .fits .numbers in
+            let u = j .fits .room in
+            let p = first-done .count in
+            let d = first-done .put .bytes .len in
+            starts-as m B second-stage (fewer-shaped s (j .left .own .shaped)) (few-without s ks (j .left .few)) (omega arith) second-ready-here
+            (record { numbers = omega arith; room = omega arith })
+
+        pub second-fewer : 2 * width b + 1 < 2 * width ks
+        second-fewer =
+            let p = admits .sets .some-s in
+            let e = ap width (z .places) in
+            let h = without-lt s ks (p .0) (admits .sets .in-s (p .0) (p .1)) (p .1) in
+            omega arith
+
+        pub second-back : {v′ net₂ : List ℕ} {e₂ : ℕ} → Written b (treeOf m (stageAt b (rest (8 * c) w₃) 0 (cells b))) (rest (8 * c) w₃) net₁ e₁ e₂ v′ net₂
+            → Back (8 * c) w₃ v′ (putMid (8 * c) (length w₃ - 8 * c) w₃ v′)
+        second-back x′ = let q = j .left .work in let n = whole-length in back (8 * c) w₃ _ (omega arith) (x′ .len)
+
+        -- both are done
+        module _ {v′ net₂ w₄ : List ℕ} {e₂ : ℕ} (x′ : Written b (treeOf m (stageAt b (rest (8 * c) w₃) 0 (cells b))) (rest (8 * c) w₃) net₁ e₁ e₂ v′ net₂)
+            (k′ : Back (8 * c) w₃ v′ w₄) where
+          second-done : Written (B .ks) (treeOf m B) (rest (8 * c) w₃) net₁ e₁ e₂ v′ net₂
+          second-done = written-as m B second-stage x′
+
+          pub close-room : CloseRoom w₄ net₂ ks b c e₁ e₂
+          close-room =
+              let h = half-second in
+              let o = j .left .own .own in
+              let q = j .left .work in
+              let e = ap cells (z .places) in
+              let n = whole-length in
+              let n′ = k′ .len in
+              let i = j .fits .numbers in
+              let u = j .fits .room in
+              let p = first-done .count in
+              let p′ = second-done .count in
+              let d = first-done .put .bytes .len in
+              let d′ = second-done .put .bytes .len in
+              let some = size-pos (treeOf m A) in
+              let some′ = size-pos (treeOf m B) in
+              record {
+                work =
+                    record {
+                      own = record { shaped = j .left .own .shaped; own = o; room = omega arith };
+                      shaped = as-shaped (z .places) (fewer-shaped s (j .left .own .shaped));
+                      block = omega arith;
+                    };
+                first = omega arith;
+                second = omega arith;
+                network = omega arith;
+                numbers = omega arith;
+              }
+
+          first-part : part w₄ (6 * c) (cells ks) ≡ moved (A .ks) ks (computed (A .ks) (treeOf m A))
+          first-part =
+              let o = j .left .own .own in
+              let q = j .left .work in
+              let n = whole-length in
+              back-front (6 * c) (cells ks) k′ (omega arith) (omega arith) ∙ z .first ∙ ap₂ (λ (p q : List ℕ). moved p ks q) (f .places) block-here
+
+          second-part : moved b ks (part w₄ (8 * c) (cells b)) ≡ moved (B .ks) ks (computed (B .ks) (treeOf m B))
+          second-part =
+              let h = half-second in
+              let o = j .left .own .own in
+              let q = j .left .work in
+              let n = whole-length in
+              let e = ap cells (z .places) in
+              let u = k′ .long in
+              ap₂ (λ (p q : List ℕ). moved p ks q) (z .places) (back-behind (cells b) k′ (omega arith) (omega arith) ∙ ap (part v′ 0) e ∙ second-done .function)
+
+          pub joined-whole : {n : ℕ} {w₅ net₃ : List ℕ} → Closed gate ks b c e₁ e₂ w₄ net₂ n w₅ net₃ → Written ks (joinTree m (treeOf m) gate s t y) w net r n w₅ net₃
+          joined-whole {n} {w₅} {net₃} d =
+              let p = first-done .count in
+              let p′ = second-done .count in
+              let i = d .next in
+              record {
+                count = omega arith;
+                put = gate-put (treeOf m A) (treeOf m B) (first-done .put) p (second-done .put) p′ (d .put);
+                function =
+                    d .function .here
+                    ∙ ap₂ (λ (p q : List ℕ). tabulate (cells ks) (λ i. combine gate (at p i) (at q i))) first-part second-part
+                    ∙ sym (joined m y ready gate s t admits);
+                len = d .function .len ∙ k′ .len ∙ whole-length;
+              }

@@ -1,0 +1,6 @@
+-- What several proofs use.
+pub mod BlockStageLaws
+pub mod ChildLaws
+pub mod LentLaws
+pub mod SplitStageLaws
+pub mod StageEndLaws

@@ -1,0 +1,2 @@
+-- What the contracts of stages cite.
+pub mod Staging

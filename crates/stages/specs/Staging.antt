@@ -1,0 +1,62 @@
+-- 01, Stages: what a stage needs of its buffers, and what it leaves there.
+use Prim.Native.Nat.{ℕ, _+_, _*_, _≤_}
+use mathlib.Core.Path.{_≡_}
+use mathlib.Core.List.{List}
+use lib.ListN.{length}
+use Rattle.rules.specs.declared.Gate.{Gate}
+use Rattle.rules.specs.Cell.{cells, card, width}
+use Rattle.rules.specs.Limits.{Limits}
+use Rattle.rules.specs.Tree.{Tree, size, records}
+use Rattle.rules.specs.Stage.{Stage, split, joining, chosen, computed, joinTree, choiceTree, treeOf}
+use Rattle.tables.specs.Part.{part, Shaped}
+use Rattle.grouping.specs.Joining.{stageAt}
+use Rattle.stage_tables.specs.Working.{Room, Proper, ForBoth}
+use Rattle.stage_tables.specs.Blocks.{stageOf}
+use Rattle.stage_steps.specs.Putting.{Put}
+
+-- a tree's records stand from r up to e, and its function, as a table over ks, at the front of the work buffer
+pub record Written (ks : List ℕ) (tree : Tree) (w net : List ℕ) (r e : ℕ) (w′ net′ : List ℕ) : Type 0 where
+  pub count : e ≡ r + size tree
+  pub put : Put net r (records tree r) net′
+  pub function : part w′ 0 (cells ks) ≡ computed ks tree
+  pub len : length w′ ≡ length w
+
+-- there is room for a tree's records from r on, and their numbers have two bytes
+pub record Fits (tree : Tree) (net : List ℕ) (r : ℕ) : Type 0 where
+  pub numbers : r + size tree ≤ 65536
+  pub room : 16 * (r + size tree) ≤ length net
+
+-- a stage whose limits are the front of the work buffer
+pub record Starts (m : ℕ) (ks w net : List ℕ) (r : ℕ) : Type 0 where
+  pub shaped : Shaped ks
+  pub few : (i : ℕ) → card ks i ≤ 8
+  pub work : 16 * cells ks ≤ length w
+  pub proper : Proper m (stageAt ks w 0 (cells ks))
+  pub fits : Fits (treeOf m (stageAt ks w 0 (cells ks))) net r
+
+-- a stage y with its conditions left, in a buffer with parts of c bytes
+pub record Left (m : ℕ) (y : Stage) (c : ℕ) (w : List ℕ) : Type 0 where
+  pub own : Room w (y .ks) c
+  pub few : (i : ℕ) → card (y .ks) i ≤ 8
+  pub work : 16 * c ≤ length w
+  pub wide : 2 ≤ width (y .ks)
+  pub proper : Proper m y
+
+-- one that joins: its tables are prepared
+pub record Joins (gate : Gate) (m : ℕ) (y : Stage) (s t c : ℕ) (w net : List ℕ) (r : ℕ) : Type 0 where
+  pub left : Left m y c w
+  pub chosen : chosen m y ≡ joining gate s t
+  pub tables : ForBoth gate m y s t c w
+  pub fits : Fits (joinTree m (treeOf m) gate s t y) net r
+
+-- one that splits: its limits are parts 0 and 1
+pub record Splits (m : ℕ) (ks : List ℕ) (c : ℕ) (w net : List ℕ) (r : ℕ) : Type 0 where
+  pub left : Left m (stageAt ks w 0 c) c w
+  pub fits : Fits (choiceTree m (treeOf m) split (stageAt ks w 0 c)) net r
+
+-- some limits are such that the stage joins, and whatever they are, their network is written
+abbrev pub CanJoin : Gate → ℕ → List ℕ → ℕ → ℕ → ℕ → List ℕ → List ℕ → ℕ → Type 0
+CanJoin gate m ks s t c w net r = (l : Limits) × Joins gate m (stageOf ks l) s t c w net r
+
+pub record Joined (gate : Gate) (m : ℕ) (ks : List ℕ) (s t c : ℕ) (w net : List ℕ) (r e : ℕ) (w′ net′ : List ℕ) : Type 0 where
+  pub whole : (l : Limits) → Joins gate m (stageOf ks l) s t c w net r → Written ks (joinTree m (treeOf m) gate s t (stageOf ks l)) w net r e w′ net′
