@@ -14,7 +14,7 @@ use Rattle.rules.specs.declared.Refusal.the-variants.{FirstBlock}
 use Rattle.rules.specs.Bytes.{at}
 use Rattle.rules.specs.Cell.{cells}
 use Rattle.rules.specs.Verdict.{Verdict, accepted, refused, unless, roomy}
-use Rattle.rules.specs.Limits.{Limits}
+use Rattle.rules.specs.Limits.{Limits, limitsOf}
 use Rattle.rules.specs.Join.{firstLimits, secondLimits, blockSound, joinRows}
 use Rattle.rules.specs.Demands.{Table, Inside}
 use Rattle.laws.proofs.GateLaws.{Good, first-good}
@@ -24,7 +24,7 @@ use Rattle.tables.specs.Part.{part, Laid}
 use Rattle.join.specs.declared.JoinAnswer.{JoinAnswer}
 use Rattle.join.specs.declared.JoinAnswer.the-variants as answers
 use Rattle.join.specs.Parts.{Below, Holds, Placed, Work, Begun, Opened, First, Second, Judged}
-use Rattle.join.specs.Calls.{joinAnswer, limitsOf, Rows}
+use Rattle.join.specs.Calls.{joinAnswer, Rows}
 use Rattle.join.proofs.HoldLaws.{holds-at, holds-part, laid-within, stays-below, stays-behind}
 use Rattle.join.proofs.BlindLaws.{block-inside}
 use Rattle.join.proofs.RowLaws.{passes, shortestOf, roomy-shortest, Passed, passed, rows-passed, stopped}

@@ -14,7 +14,7 @@ use Rattle.rules.specs.declared.Refusal.the-variants.{ShapeRange, GradeLimits, 
 use Rattle.rules.specs.Bytes.{at, all}
 use Rattle.rules.specs.Cell.{Positive, cells}
 use Rattle.rules.specs.Verdict.{accepted, refused, unless, roomy}
-use Rattle.rules.specs.Limits.{Limits}
+use Rattle.rules.specs.Limits.{Limits, limitsOf}
 use Rattle.rules.specs.Join.{exchangeFor, setsSound, joinExists, joinRows}
 use Rattle.rules.specs.Demands.{Table}
 use Rattle.laws.proofs.GateLaws.{Good, exchangeFor-good}
@@ -25,7 +25,7 @@ use Rattle.tables.specs.Part.{part, Laid}
 use Rattle.tables.proofs.PartLaws.{part-at}
 use Rattle.join.specs.declared.JoinAnswer.the-variants as answers
 use Rattle.join.specs.Parts.{Below, Holds, Placed, Exchanging, Exchanged, Work, Begun, Opened, Uppers, Existing}
-use Rattle.join.specs.Calls.{joinAnswer, limitsOf, Ready, Rows}
+use Rattle.join.specs.Calls.{joinAnswer, Ready, Rows}
 use Rattle.join.proofs.HoldLaws.{holds-at, laid-within, stays-below}
 use Rattle.join.proofs.StepLaws.{before, grades-both}
 use Rattle.join.proofs.RowLaws.{passes, refused-limits, rows-by}

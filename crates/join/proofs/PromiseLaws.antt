@@ -13,7 +13,7 @@ use Rattle.rules.specs.declared.Refusal.the-variants.{NoJoin, FirstBlock}
 use Rattle.rules.specs.Bytes.{at}
 use Rattle.rules.specs.Cell.{cells}
 use Rattle.rules.specs.Verdict.{Verdict, accepted, refused, unless}
-use Rattle.rules.specs.Limits.{Limits, limitsSound}
+use Rattle.rules.specs.Limits.{Limits, limitsOf, limitsSound}
 use Rattle.rules.specs.Join.{exchangeFor, firstLimits, secondLimits, blockSound, joinRows}
 use Rattle.rules.specs.Demands.{Table, Inside, Pair}
 use Rattle.laws.proofs.TableLaws.{length-tabulateFrom}
@@ -25,7 +25,7 @@ use Rattle.shape.specs.Shapes.{cardsOf, placesOf, isSound}
 use Rattle.shape.proofs.ShapeLaws.{eight-cards}
 use Rattle.join.specs.declared.JoinAnswer.{JoinAnswer}
 use Rattle.join.specs.declared.JoinAnswer.the-variants as answers
-use Rattle.join.specs.Calls.{joinAnswer, lowerAfter, upperAfter, limitsOf, Offered, firstLengths, firstVerdict, JoinFirst, secondLengths, secondVerdict, JoinSecond}
+use Rattle.join.specs.Calls.{joinAnswer, lowerAfter, upperAfter, Offered, firstLengths, firstVerdict, JoinFirst, secondLengths, secondVerdict, JoinSecond}
 use Rattle.join.proofs.BlindLaws.{block-blind, block-inside}
 use Rattle.join.proofs.RowLaws.{passes, limits-refused, passed, rows-passed, row-passed, eight}
 

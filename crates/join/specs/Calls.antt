@@ -10,7 +10,7 @@ use Rattle.rules.specs.declared.Refusal.the-variants.{NoJoin}
 use Rattle.rules.specs.Bytes.{at}
 use Rattle.rules.specs.Cell.{Blind, cells}
 use Rattle.rules.specs.Verdict.{Verdict, accepted, refused, roomy}
-use Rattle.rules.specs.Limits.{Limits, limitsSound}
+use Rattle.rules.specs.Limits.{Limits, limitsOf, limitsSound}
 use Rattle.rules.specs.Join.{setsSound, joinRows, joinFirst, joinSecond}
 use Rattle.rules.specs.Demands.{Grades, Inside, Pair}
 use Rattle.shape.specs.declared.Shape.{Shape}
@@ -32,10 +32,6 @@ lowerAfter (refused q) n to = to
 abbrev pub upperAfter : Verdict Limits → ℕ → List ℕ → List ℕ
 upperAfter (accepted l) n to = l .upper ++ drop n to
 upperAfter (refused q) n to = to
-
--- the limits that two buffers hold
-abbrev pub limitsOf : List ℕ → List ℕ → Limits
-limitsOf lower upper = record { lower = lower; upper = upper }
 
 -- a call that rows 4, 10, 5 and 7 let pass
 pub record Offered (shape : Shape) (lengths : List ℕ) (l : Limits) (s t : ℕ) : Type 0 where

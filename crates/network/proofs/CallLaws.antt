@@ -8,7 +8,7 @@ use lib.ListN.{length}
 use Rattle.rules.specs.declared.Refusal.{Refusal}
 use Rattle.rules.specs.declared.Refusal.the-variants.{ShapeRange, GradeLimits, ShortBuffer, Network, CellNumber}
 use Rattle.rules.specs.Cell.{cells}
-use Rattle.rules.specs.Limits.{limitsSound}
+use Rattle.rules.specs.Limits.{limitsOf, limitsSound}
 use Rattle.rules.specs.Verdict.{Verdict, accepted, unless, roomy}
 use Rattle.rules.specs.Network.{networkSound, evaluate}
 use Rattle.rules.specs.NetworkCalls.{checkFrom, evaluateCall}
@@ -16,7 +16,7 @@ use Rattle.shape.specs.declared.Shape.{Shape}
 use Rattle.shape.specs.Shapes.{cardsOf, placesOf, isSound}
 use Rattle.laws.proofs.TestLaws.{and-l, and-r}
 use Rattle.network.proofs.TestLaws.{passes}
-use Rattle.network.specs.Checking.{limitsOf, checkRows}
+use Rattle.network.specs.Checking.{checkRows}
 
 -- a row whose test is known, above rows that are
 row : {A : Type 0} (r : Refusal) (a a′ : Bool) (v v′ : Verdict A) → a ≡ a′ → v ≡ v′ → unless a r v ≡ unless a′ r v′

@@ -13,7 +13,7 @@ use Rattle.rules.specs.declared.Refusal.the-variants.{ShapeRange, GradeLimits, 
 use Rattle.rules.specs.Refusal.{refusalNumber}
 use Rattle.rules.specs.Bytes.{at}
 use Rattle.rules.specs.Cell.{cells}
-use Rattle.rules.specs.Limits.{Limits, limitsSound}
+use Rattle.rules.specs.Limits.{Limits, limitsOf, limitsSound}
 use Rattle.rules.specs.Verdict.{Verdict, accepted, refused, unless, roomy, verdictNumber}
 use Rattle.rules.specs.Network.{evaluate}
 use Rattle.rules.specs.NetworkCalls.{gradeWithin, CheckResult, within, outside, checkFrom}
@@ -23,7 +23,7 @@ use Rattle.laws.proofs.TestLaws.{and-l, and-r, and-i, by-order}
 use Rattle.network.specs.declared.CheckAnswer.{CheckAnswer}
 use Rattle.network.specs.declared.CheckAnswer.the-variants.{Within, Outside, Refused}
 use Rattle.network.specs.Grades.{Kept}
-use Rattle.network.specs.Checking.{checkVerdict, limitsOf, checkRows, EveryWithin, Checked}
+use Rattle.network.specs.Checking.{checkVerdict, checkRows, EveryWithin, Checked}
 use Rattle.network.proofs.TestLaws.{passed}
 use Rattle.network.proofs.CallLaws.{networkTest, roomTest}
 

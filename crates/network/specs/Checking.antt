@@ -6,7 +6,7 @@ use lib.ListN.{length}
 use Rattle.rules.specs.declared.Refusal.{Refusal}
 use Rattle.rules.specs.Bytes.{at}
 use Rattle.rules.specs.Cell.{cells}
-use Rattle.rules.specs.Limits.{Limits}
+use Rattle.rules.specs.Limits.{limitsOf}
 use Rattle.rules.specs.Verdict.{Verdict, accepted, refused, verdictNumber}
 use Rattle.rules.specs.Network.{evaluate}
 use Rattle.rules.specs.NetworkCalls.{CheckResult, within, outside, checkFrom, checkCall}
@@ -20,9 +20,6 @@ abbrev pub checkVerdict : CheckAnswer → Verdict CheckResult
 checkVerdict Within = accepted within
 checkVerdict (Outside cell grade) = accepted (outside cell grade)
 checkVerdict (Refused r) = refused r
-
-abbrev pub limitsOf : List ℕ → List ℕ → Limits
-limitsOf lower upper = record { lower = lower; upper = upper }
 
 -- the rows of document 01 for a check
 abbrev pub checkRows : Shape → List ℕ → List ℕ → List ℕ → List ℕ → Verdict CheckResult

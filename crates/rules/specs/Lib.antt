@@ -12,4 +12,5 @@ pub mod NetworkCalls
 pub mod Tree
 pub mod Stage
 pub mod Demands
+pub mod CompileCall
 pub mod Small

@@ -11,6 +11,10 @@ pub record Limits : Type 0 where
   pub lower : List ℕ
   pub upper : List ℕ
 
+-- the limits that two buffers hold
+abbrev pub limitsOf : List ℕ → List ℕ → Limits
+limitsOf lower upper = record { lower = lower; upper = upper }
+
 -- the same done to both
 abbrev pub each : (List ℕ → List ℕ) → Limits → Limits
 each f l = record { lower = f (l .lower); upper = f (l .upper) }

@@ -10,7 +10,7 @@ use Rattle.rules.specs.declared.Gate.the-variants.{Min, Max}
 use Rattle.rules.specs.Bytes.{at, tabulate}
 use Rattle.rules.specs.Cell.{cells, value, remap, without, moved, greatestOver}
 use Rattle.rules.specs.Join.{above, complement, exchange, exchangeFor, exchangeBlockFor}
-use Rattle.rules.specs.Limits.{Limits, each}
+use Rattle.rules.specs.Limits.{Limits, limitsOf, each}
 use Rattle.rules.specs.Network.{combine}
 use Rattle.rules.specs.Stage.{outside}
 use Rattle.laws.proofs.TableLaws.{length-tabulateFrom}
@@ -18,7 +18,6 @@ use Rattle.laws.proofs.CellLaws.{cell-lt, moved-at}
 use Rattle.tables.specs.Part.{part, Laid, Shaped, Apart, Two}
 use Rattle.tables.proofs.PartLaws.{part-length, laid-as, laid-part, laid-apart}
 use Rattle.join.specs.Parts.{turned, Below}
-use Rattle.join.specs.Calls.{limitsOf}
 use Rattle.join.proofs.HoldLaws.{laid-within}
 use Rattle.join.proofs.TurnLaws.{below-part}
 use Rattle.join.proofs.StepLaws.{before, behind, above-below, grades-below, grades-behind}

@@ -9,11 +9,10 @@ use lib.Dec.{leb, ltb}
 use lib.ListN.{length}
 use Rattle.rules.specs.Bytes.{at, all}
 use Rattle.rules.specs.Cell.{cells}
-use Rattle.rules.specs.Limits.{limitsSound}
+use Rattle.rules.specs.Limits.{limitsOf, limitsSound}
 use Rattle.rules.specs.Verdict.{roomy}
 use Rattle.rules.specs.Network.{networkSound}
 use Rattle.shape.specs.Shapes.{placesOf, isSound}
-use Rattle.network.specs.Checking.{limitsOf}
 use Rattle.network.proofs.WorkLaws.{kept-same}
 use Rattle.network.proofs.CallLaws.{networkTest, check-by, roomy-means}
 use Rattle.network.proofs.CheckLaws.{checked, never-refused}

@@ -5,12 +5,11 @@ use Prim.Native.Nat.{ℕ, _-_, _≤_}
 use native.Mathlib.Omega.{arith}
 use borrow.Author.Tests.{not-true, not-false}
 use Rattle.rules.specs.Cell.{cells}
-use Rattle.rules.specs.Limits.{Limits}
+use Rattle.rules.specs.Limits.{Limits, limitsOf}
 use Rattle.rules.specs.Verdict.{accepted}
 use Rattle.rules.specs.NetworkCalls.{gradeWithin, outside, checkFrom}
 use Rattle.shape.specs.Shapes.{placesOf}
 use Rattle.network.specs.Grades.{Kept}
-use Rattle.network.specs.Checking.{limitsOf}
 use Rattle.network.proofs.WorkLaws.{kept-same, kept-then}
 use Rattle.network.proofs.CheckLaws.{cellWithin, check-next, check-stop, check-end}
 use borrow.Author.Needs.{needs}

@@ -1,0 +1,184 @@
+-- The first stage of a table, in the work buffer.
+use Prim.Native.Nat.{ℕ, _+_, _-_, _*_, _≤_, _<_, max}
+use mathlib.Core.Path.{_≡_, sym, _∙_, ap, ap₂, subst}
+use mathlib.Core.Bool.{true, _&&_}
+use mathlib.Core.List.{List, [], _∷_, _++_}
+use native.Mathlib.Nat.{zero-add}
+use native.Mathlib.Omega.{arith}
+use lib.Dec.{T, leb, leb→le, eqb, eqb→eq}
+use lib.ListN.{length, take, drop, length-append, length-drop}
+use lib.Seq.{length-take-le, getD-take, getD-drop, drop-append-seam, ext-getD}
+use Rattle.rules.specs.Bytes.{at}
+use Rattle.rules.specs.Cell.{cells}
+use Rattle.rules.specs.Limits.{Limits, limitsOf}
+use Rattle.rules.specs.Verdict.{roomy}
+use Rattle.rules.specs.Tree.{Tree, size, records}
+use Rattle.rules.specs.Stage.{Stage, treeOf, wholeTable, compiled}
+use Rattle.rules.specs.Demands.{Table}
+use Rattle.rules.specs.CompileCall.{mostRecords, compileRoom, lentLimits}
+use Rattle.laws.proofs.CellLaws.{cells-pos}
+use Rattle.laws.proofs.TestLaws.{and-l, and-r, pick-ok, by-order}
+use Rattle.laws.proofs.ByteLaws.{length-networkBytes}
+use Rattle.laws.proofs.TreeLaws.{length-records}
+use Rattle.laws.proofs.SizeLaws.{compiled-size}
+use Rattle.tables.specs.Part.{part, Laid}
+use Rattle.tables.proofs.PartLaws.{part-at, part-length, laid-front}
+use Rattle.grouping.specs.Joining.{stageAt}
+use Rattle.stage_tables.specs.Working.{Proper}
+use Rattle.stages.specs.Staging.{Written, Fits, Starts}
+use Rattle.shape.specs.declared.Shape.{Shape}
+use Rattle.shape.specs.Shapes.{placesOf}
+use Rattle.join.proofs.RowLaws.{passes}
+use Rattle.compile.specs.Compiling.{Accepted, Recorded}
+use Rattle.compile.proofs.RowLaws.{table}
+
+-- row 10, buffer by buffer
+pub record Roomy (c : ℕ) (lower upper work network : ℕ) : Type 0 where
+  pub low : c ≤ lower
+  pub high : c ≤ upper
+  pub work-room : 16 * c ≤ work
+  pub network-room : 16 * mostRecords c ≤ network
+
+pub roomy-means : (c lower upper work network : ℕ) → T (compileRoom c lower upper work network) → Roomy c lower upper work network
+roomy-means c lower upper work network h =
+    let a = and-l (roomy c (lower ∷ upper ∷ [])) (leb (16 * c) work && leb (16 * mostRecords c) network) h in
+    let b = and-r (roomy c (lower ∷ upper ∷ [])) (leb (16 * c) work && leb (16 * mostRecords c) network) h in
+    record {
+      low = leb→le c lower (and-l (leb c lower) (leb c upper && true) a);
+      high = leb→le c upper (and-l (leb c upper) true (and-r (leb c lower) (leb c upper && true) a));
+      work-room = leb→le (16 * c) work (and-l (leb (16 * c) work) (leb (16 * mostRecords c) network) b);
+      network-room = leb→le (16 * mostRecords c) network (and-r (leb (16 * c) work) (leb (16 * mostRecords c) network) b);
+    }
+
+-- a table at a, within the first e bytes of a buffer
+front-part : (w t : List ℕ) (e a n : ℕ) → e ≤ length w → a + n ≤ e → length t ≡ n → ((k : ℕ) → k < n → at w (a + k) ≡ at t k) → part (take e w) a n ≡ t
+front-part w t e a n he ha lt eq =
+    let le : length (take e w) ≡ e = length-take-le e w he in
+    let lp : length (part (take e w) a n) ≡ n = part-length (take e w) a n (omega arith) in
+    ext-getD 0 (part (take e w) a n) t (lp ∙ sym lt)
+    (λ k h. let q : k < n = omega arith in part-at (take e w) a n k q ∙ getD-take e w (a + k) 0 (omega arith) ∙ eq k q)
+
+-- the first n bytes of another buffer, as loading has them
+load-at : (x : List ℕ) (n k : ℕ) → k < n → at (part x 0 n) k ≡ at (take n x) k
+load-at x n k h = part-at x 0 n k h ∙ ap (at x) (zero-add k) ∙ sym (getD-take n x k 0 h)
+
+-- both limits loaded, the lower ones first
+module _ (ks lower upper work : List ℕ) {v w : List ℕ} (low : Laid work 0 (part lower 0 (cells ks)) (cells ks) v) (high : Laid v (cells ks) (part upper 0 (cells ks)) (cells ks) w)
+    (hl : cells ks ≤ length lower) (hu : cells ks ≤ length upper) (hw : 16 * cells ks ≤ length work) where
+  pub first-stage : stageAt ks (take (16 * cells ks) w) 0 (cells ks) ≡ wholeTable ks (lentLimits ks lower upper)
+  first-stage =
+      let e : length w ≡ length work = high .len ∙ low .len in
+      ap₂ (λ (a b : List ℕ). wholeTable ks (limitsOf a b))
+      (front-part w (take (cells ks) lower) (16 * cells ks) 0 (cells ks) (omega arith) (omega arith) (length-take-le (cells ks) lower hl)
+      (λ k h. high .before (0 + k) (omega arith) ∙ low .here k h ∙ load-at lower (cells ks) k h))
+      (front-part w (take (cells ks) upper) (16 * cells ks) (cells ks) (cells ks) (omega arith) (omega arith) (length-take-le (cells ks) upper hu)
+      (λ k h. high .here k h ∙ load-at upper (cells ks) k h))
+
+-- the bytes behind both stay
+drop-same : (e : ℕ) (w w′ : List ℕ) → length w′ ≡ length w → ((j : ℕ) → e ≤ j → at w′ j ≡ at w j) → drop e w′ ≡ drop e w
+drop-same e w w′ l h =
+    ext-getD 0 (drop e w′) (drop e w) (length-drop e w′ ∙ omega (arith, length-drop e w))
+    (λ k lt. getD-drop e w′ k 0 ∙ h (e + k) (omega arith) ∙ sym (getD-drop e w k 0))
+
+pub most-few : (c : ℕ) → 1 ≤ c → mostRecords c ≤ 3 * c
+most-few c h = pick-ok (λ (q : ℕ). q ≤ 3 * c) (eqb c 1) 1 (3 * c - 5) (λ t. omega arith) (λ n. omega arith)
+
+-- as many records as the network buffer is asked to hold
+most-is : (s c : ℕ) → 1 ≤ c → s ≤ max 1 (3 * c - 5) → s ≤ mostRecords c
+most-is s c some h =
+    pick-ok (λ (q : ℕ). s ≤ q) (eqb c 1) 1 (3 * c - 5) (λ t. let e = eqb→eq c 1 t in omega arith)
+    (λ n. by-order c 1 (λ le. let e : 1 ≡ c = omega arith in absurd (n (subst (λ (k : ℕ). T (eqb k 1)) e tt))) (λ lt. omega arith))
+
+module _ (shape : Shape) (lower upper work network : List ℕ) (ok : Accepted shape lower upper work network) where
+  abbrev ks : List ℕ
+  ks = placesOf shape
+
+  abbrev l : Limits
+  l = lentLimits ks lower upper
+
+  abbrev tree : Tree
+  tree = compiled ks (shape .m) l
+
+  rooms : Roomy (cells ks) (length lower) (length upper) (length work) (length network)
+  rooms = roomy-means (cells ks) (length lower) (length upper) (length work) (length network) (passes (ok .room))
+
+  lent : Table ks (shape .m) l
+  lent = table shape lower upper work network ok
+
+  all-fit : 16 * size tree ≤ length network
+  all-fit =
+      let h : size tree ≤ mostRecords (cells ks) = most-is (size tree) (cells ks) (cells-pos ks (lent .positive)) (compiled-size ks (shape .m) l (lent .positive)) in
+      let r = rooms .network-room in
+      omega arith
+
+  module _ {v w : List ℕ} (low : Laid work 0 (part lower 0 (cells ks)) (cells ks) v) (high : Laid v (cells ks) (part upper 0 (cells ks)) (cells ks) w) where
+    same : stageAt ks (take (16 * cells ks) w) 0 (cells ks) ≡ wholeTable ks l
+    same = first-stage ks lower upper work low high (rooms .low) (rooms .high) (rooms .work-room)
+
+    lent-length : length (take (16 * cells ks) w) ≡ 16 * cells ks
+    lent-length = length-take-le (16 * cells ks) w (let r = rooms .work-room in let e : length w ≡ length work = high .len ∙ low .len in omega arith)
+
+    starts : Starts (shape .m) ks (take (16 * cells ks) w) network 0
+    starts =
+        record {
+          shaped = record { some = lent .positive; few = lent .few-cells };
+          few = lent .few-values;
+          work = let e = lent-length in omega arith;
+          proper = subst (Proper (shape .m)) (sym same) (record { some = let g = lent .grades in omega arith; ordered = lent .ordered; top = lent .top });
+          fits =
+              subst (λ (x : Stage). Fits (treeOf (shape .m) x) network 0) (sym same)
+              (record {
+                numbers = let h = compiled-size ks (shape .m) l (lent .positive) in let g = lent .few-cells in omega arith;
+                room = let h = all-fit in let z = zero-add (size tree) in omega arith;
+              });
+        }
+
+    module _ {e : ℕ} {w′ net′ : List ℕ} (done : Written ks (treeOf (shape .m) (stageAt ks (take (16 * cells ks) w) 0 (cells ks))) (take (16 * cells ks) w) network 0 e w′ net′) where
+      here : Written ks tree (take (16 * cells ks) w) network 0 e w′ net′
+      here = subst (λ (x : Stage). Written ks (treeOf (shape .m) x) (take (16 * cells ks) w) network 0 e w′ net′) same done
+
+      recorded : Recorded shape lower upper work network e (w′ ++ drop (16 * cells ks) w) net′
+      recorded =
+          let len : length w′ ≡ 16 * cells ks = here .len ∙ lent-length in
+          let long : length w ≡ length work = high .len ∙ low .len in
+          let count : length (records tree 0) ≡ size tree = length-records tree 0 in
+          record {
+            count = here .count ∙ zero-add (size tree) ∙ sym count;
+            bytes = laid-front (here .put .bytes) (let h = all-fit in omega arith) (length-networkBytes (records tree 0));
+            kept =
+                record {
+                  long = length-append w′ (drop (16 * cells ks) w) ∙ (let r = rooms .work-room in omega (arith, length-drop (16 * cells ks) w));
+                  rest =
+                      ap (λ (k : ℕ). drop k (w′ ++ drop (16 * cells ks) w)) (sym len)
+                      ∙ drop-append-seam w′ (drop (16 * cells ks) w)
+                      ∙ drop-same (16 * cells ks) work w long (λ j h. high .after j (omega arith) ∙ low .after j (omega arith));
+                };
+          }
+
+-- the same for the number of cells and the places that the code reads off the shape
+module _ (shape : Shape) (lower upper work network : List ℕ) (ok : Accepted shape lower upper work network) (n : ℕ) (count : n ≡ cells (placesOf shape)) where
+  pub few : n ≤ 1024
+  few = let h = lent shape lower upper work network ok .few-cells in omega arith
+
+  pub rooms-by : (n ≤ length lower) × (n ≤ length upper) × (16 * n ≤ length work)
+  rooms-by = let r = rooms shape lower upper work network ok in (let h = r .low in omega arith, let h = r .high in omega arith, let h = r .work-room in omega arith)
+
+  module _ {v w : List ℕ} (low : Laid work 0 (part lower 0 n) n v) (high : Laid v n (part upper 0 n) n w) (k : List ℕ) (places : k ≡ placesOf shape) where
+    low-by : Laid work 0 (part lower 0 (cells (placesOf shape))) (cells (placesOf shape)) v
+    low-by = subst (λ (i : ℕ). Laid work 0 (part lower 0 i) i v) count low
+
+    high-by : Laid v (cells (placesOf shape)) (part upper 0 (cells (placesOf shape))) (cells (placesOf shape)) w
+    high-by = subst (λ (i : ℕ). Laid v i (part upper 0 i) i w) count high
+
+    pub starts-by : Starts (shape .m) k (take (16 * n) w) network 0
+    starts-by =
+        subst (λ (i : ℕ). Starts (shape .m) k (take (16 * i) w) network 0) (sym count)
+        (subst (λ (q : List ℕ). Starts (shape .m) q (take (16 * cells (placesOf shape)) w) network 0) (sym places) (starts shape lower upper work network ok low-by high-by))
+
+    pub recorded-by : {e : ℕ} {w′ net′ : List ℕ} → Written k (treeOf (shape .m) (stageAt k (take (16 * n) w) 0 (cells k))) (take (16 * n) w) network 0 e w′ net′
+        → Recorded shape lower upper work network e (w′ ++ drop (16 * n) w) net′
+    recorded-by {e} {w′} {net′} y =
+        subst (λ (i : ℕ). Recorded shape lower upper work network e (w′ ++ drop (16 * i) w) net′) (sym count)
+        (recorded shape lower upper work network ok low-by high-by
+        (subst (λ (i : ℕ). Written (placesOf shape) (treeOf (shape .m) (stageAt (placesOf shape) (take (16 * i) w) 0 (cells (placesOf shape)))) (take (16 * i) w) network 0 e w′ net′) count
+        (subst (λ (q : List ℕ). Written q (treeOf (shape .m) (stageAt q (take (16 * n) w) 0 (cells q))) (take (16 * n) w) network 0 e w′ net′) places y)))
