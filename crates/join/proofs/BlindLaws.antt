@@ -8,12 +8,11 @@ use lib.Dec.{T, leb, leb→le, le→leb, eqb, eqb→eq, eqb-refl}
 use Rattle.rules.specs.Bytes.{at, all}
 use Rattle.rules.specs.Cell.{Blind, cells, agreeOutside, greatestOver}
 use Rattle.rules.specs.Limits.{Limits}
-use Rattle.rules.specs.Join.{blockSound}
+use Rattle.rules.specs.Join.{blindTest, blockSound}
 use Rattle.rules.specs.Demands.{Inside}
 use Rattle.laws.proofs.TestLaws.{and-l, and-r, and-i}
 use Rattle.laws.proofs.TableLaws.{all-at, all-of}
 use Rattle.laws.proofs.OverLaws.{max-bound, over-at, over-least, agree-sym}
-use Rattle.join.specs.Parts.{blindTest}
 
 -- two tests that pass together
 pub same-test : (a b : Bool) → (T a → T b) → (T b → T a) → a ≡ b

@@ -1,16 +1,15 @@
 -- What stands in the parts of a join's work buffer, each of n bytes.
 use Prim.Native.Nat.{ℕ, _+_, _-_, _*_, _≤_, _<_}
 use mathlib.Core.Path.{_≡_}
-use mathlib.Core.Bool.{Bool, not, _||_}
+use mathlib.Core.Bool.{Bool}
 use mathlib.Core.List.{List}
-use lib.Dec.{eqb}
 use lib.ListN.{length}
 use Rattle.rules.specs.declared.Gate.{Gate}
 use Rattle.rules.specs.declared.Gate.the-variants.{Min, Max}
-use Rattle.rules.specs.Bytes.{at, tabulate, all}
-use Rattle.rules.specs.Cell.{cells, agreeOutside}
+use Rattle.rules.specs.Bytes.{at, tabulate}
+use Rattle.rules.specs.Cell.{cells}
 use Rattle.rules.specs.Limits.{Limits}
-use Rattle.rules.specs.Join.{uA, uB, exchangeFor, joinExists, firstLimits, secondLimits, blockSound}
+use Rattle.rules.specs.Join.{uA, uB, exchangeFor, joinExists, firstLimits, secondLimits, blindTest, blockSound}
 use Rattle.tables.specs.Part.{Apart, Shaped}
 
 -- the first choice for max, the second for min
@@ -88,10 +87,6 @@ pub record First (gate : Gate) (ks : List ℕ) (m t n : ℕ) (w w′ : List ℕ)
 pub record Second (gate : Gate) (ks : List ℕ) (m s n : ℕ) (w w′ : List ℕ) : Type 0 where
   pub limits : (t : ℕ) (l : Limits) (g : List ℕ) → Begun gate ks m s t l n w → Holds w n g n → Placed w′ (6 * n) (secondLimits gate ks m s t l g) n
   pub kept : Within w (3 * n) (8 * n) w′
-
--- cells that agree outside t have the same grade
-abbrev pub blindTest : List ℕ → ℕ → List ℕ → Bool
-blindTest ks t g = all (cells ks) (λ c. all (cells ks) (λ d. not (agreeOutside ks t c d) || eqb (at g c) (at g d)))
 
 -- whatever table stood there: the answer is whether it is blind to the set
 pub record Blinded (ks : List ℕ) (set from to n : ℕ) (w : List ℕ) (r : Bool) (w′ : List ℕ) : Type 0 where

@@ -1,6 +1,6 @@
 // The grades of a sound network's records at a cell.
 ghost use mathlib.Core.Path.{_≡_};
-ghost use Prim.Native.Nat.{ℕ, min, max};
+ghost use Prim.Native.Nat.{ℕ};
 ghost use Rattle.rules.specs.Bytes.{at};
 ghost use Rattle.rules.specs.Cell.{Positive, value};
 ghost use Rattle.shape.specs.Shapes.{placesOf};
@@ -8,6 +8,7 @@ ghost use Rattle.network.specs.Grades.{gateGrade, byteGrade, Readable, R
 use crate::scan::RECORD;
 use crate::scan::word;
 use shape::Shape;
+use tables::extremes;
 
 // The values of the eight conditions at a cell.
 fn values_at(ks: [u8; 8], cell: usize) -> [u8; 8]
@@ -24,25 +25,13 @@ fn values_at(ks: [u8; 8], cell: usize) -> [u8; 8]
     values
 }
 
-fn lesser(a: u8, b: u8) -> u8
-    ensures { λ q. ⌜ q ≡ min a b ⌝ }
-{
-    if a <= b { a } else { b }
-}
-
-fn greater(a: u8, b: u8) -> u8
-    ensures { λ q. ⌜ q ≡ max a b ⌝ }
-{
-    if a <= b { b } else { a }
-}
-
 fn gate_grade(kind: u8, left: u8, right: u8) -> u8
     ensures { λ q. ⌜ q ≡ gateGrade kind left right ⌝ }
 {
     if kind == 2 {
-        lesser(left, right)
+        extremes::extreme(false, left, right)
     } else {
-        greater(left, right)
+        extremes::extreme(true, left, right)
     }
 }
 

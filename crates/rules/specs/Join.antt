@@ -77,11 +77,13 @@ setsSound ks s t =
     (not (eqb s 0) && not (eqb t 0))
     && all 8 (λ i. not (has s i && has t i) && (not (has s i || has t i) || present ks i))
 
+-- cells that agree outside t have the same grade
+abbrev pub blindTest : List ℕ → ℕ → List ℕ → Bool
+blindTest ks t g = all (cells ks) (λ c. all (cells ks) (λ d. not (agreeOutside ks t c d) || eqb (at g c) (at g d)))
+
 -- row 9: a first block within its limits, that does not depend on t
 abbrev pub blockSound : List ℕ → ℕ → Limits → List ℕ → Bool
-blockSound ks t l g =
-    all (cells ks) (λ c. leb (at (l .lower) c) (at g c) && leb (at g c) (at (l .upper) c))
-    && all (cells ks) (λ c. all (cells ks) (λ d. not (agreeOutside ks t c d) || eqb (at g c) (at g d)))
+blockSound ks t l g = all (cells ks) (λ c. leb (at (l .lower) c) (at g c) && leb (at g c) (at (l .upper) c)) && blindTest ks t g
 
 -- a shape's bytes, the lengths of the lent buffers, and the limits that they hold
 module _ (n : ℕ) (cards : List ℕ) (m : ℕ) (lengths : List ℕ) (l : Limits) (op : Gate) (s t : ℕ) where
