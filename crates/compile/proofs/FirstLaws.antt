@@ -80,10 +80,10 @@ drop-same e w w′ l h =
     ext-getD 0 (drop e w′) (drop e w) (length-drop e w′ ∙ omega (arith, length-drop e w))
     (λ k lt. getD-drop e w′ k 0 ∙ h (e + k) (omega arith) ∙ sym (getD-drop e w k 0))
 
+-- the most records are few, and enough for a tree within the bound of demand 3
 pub most-few : (c : ℕ) → 1 ≤ c → mostRecords c ≤ 3 * c
 most-few c h = pick-ok (λ (q : ℕ). q ≤ 3 * c) (eqb c 1) 1 (3 * c - 5) (λ t. omega arith) (λ n. omega arith)
 
--- as many records as the network buffer is asked to hold
 most-is : (s c : ℕ) → 1 ≤ c → s ≤ max 1 (3 * c - 5) → s ≤ mostRecords c
 most-is s c some h =
     pick-ok (λ (q : ℕ). s ≤ q) (eqb c 1) 1 (3 * c - 5) (λ t. let e = eqb→eq c 1 t in omega arith)
