@@ -1,0 +1,159 @@
+//! The calls that are measured.
+
+use calls::plain::Plain;
+use calls::tables::OwnedTable;
+use calls::{Calls, Gate, Limits, Sets};
+
+/// Makes the call once and gives its answer.
+pub type Call = Box<dyn FnMut(&dyn Calls) -> u32>;
+
+pub struct Case {
+    pub name: String,
+    /// In the plot: which line it belongs to, and the number of cells.
+    pub growth: Option<(&'static str, usize)>,
+    /// Prepares the call; what is prepared is not measured.
+    pub prepare: Box<dyn Fn() -> Call>,
+}
+
+/// A table with one grade for each cell.
+fn function(cards: &[u8], grades: u8, mut rule: impl FnMut(&[u8]) -> usize) -> OwnedTable {
+    OwnedTable::by_rule(cards, grades, |values| {
+        let grade = (rule(values) % grades as usize) as u8;
+        (grade, grade)
+    })
+}
+
+fn sum(values: &[u8]) -> usize {
+    values.iter().map(|&value| value as usize).sum()
+}
+
+fn parity(cards: &[u8]) -> OwnedTable {
+    function(cards, 2, sum)
+}
+
+/// Noise that is the same in every run.
+fn random(cards: &[u8], grades: u8) -> OwnedTable {
+    let mut state = 1u32;
+    function(cards, grades, |_| {
+        state = state.wrapping_mul(1_664_525).wrapping_add(1_013_904_223);
+        (state >> 16) as usize
+    })
+}
+
+fn network(table: &OwnedTable) -> Vec<u8> {
+    let cells = table.cells();
+    let (mut work, mut network) = (vec![0; 16 * cells], vec![0; 16 * (3 * cells - 5)]);
+    let records = Plain.compile(table.lent(), &mut work, &mut network);
+    network.truncate(16 * records as usize);
+    network
+}
+
+fn read(name: &str, table: OwnedTable) -> Case {
+    let prepare = move || -> Call {
+        let (file, cells) = (table.file(|| true), table.cells());
+        let (mut shape, mut lower, mut upper) = (vec![0; 10], vec![0; cells], vec![0; cells]);
+        Box::new(move |calls| calls.read(&file, &mut shape, Limits { lower: &mut lower, upper: &mut upper }))
+    };
+    Case { name: format!("read {name}"), growth: None, prepare: Box::new(prepare) }
+}
+
+/// A join; with its own first block, where one is asked for.
+fn join(name: &str, table: OwnedTable, gate: Gate, sets: Sets, second: bool) -> Case {
+    let prepare = move || -> Call {
+        let table = table.clone();
+        let (mut lower, mut upper) = (vec![0; table.cells()], vec![0; table.cells()]);
+        Plain.join_first(gate, table.lent(), sets, Limits { lower: &mut lower, upper: &mut upper });
+        let first = lower.clone();
+        Box::new(move |calls| {
+            let limits = Limits { lower: &mut lower, upper: &mut upper };
+            if second {
+                calls.join_second(gate, table.lent(), sets, &first, limits)
+            } else {
+                calls.join_first(gate, table.lent(), sets, limits)
+            }
+        })
+    };
+    Case { name: format!("join {name}"), growth: None, prepare: Box::new(prepare) }
+}
+
+fn compile(name: &str, line: Option<&'static str>, table: OwnedTable) -> Case {
+    let cells = table.cells();
+    let prepare = move || -> Call {
+        let table = table.clone();
+        let (mut work, mut network) = (vec![0; 16 * cells], vec![0; 16 * (3 * cells - 5)]);
+        Box::new(move |calls| calls.compile(table.lent(), &mut work, &mut network))
+    };
+    Case { name: format!("compile {name}"), growth: line.map(|line| (line, cells)), prepare: Box::new(prepare) }
+}
+
+/// Two constants, and then literals and gates, each gate naming the two records before it.
+fn long_network(shape: &[u8], records: usize) -> Vec<u8> {
+    let mut network = vec![0; 16 * records];
+    for (number, record) in network.chunks_mut(16).enumerate().skip(2) {
+        record[0] = 1 + (number % 3) as u8;
+        if record[0] == 1 {
+            let condition = number / 3 % shape[0] as usize;
+            record[1] = condition as u8;
+            record[8..][..shape[1 + condition] as usize].fill((number % shape[9] as usize) as u8);
+        } else {
+            record[4..6].copy_from_slice(&(number as u16 - 1).to_le_bytes());
+            record[6..8].copy_from_slice(&(number as u16 - 2).to_le_bytes());
+        }
+    }
+    network
+}
+
+fn evaluate(records: usize) -> Case {
+    let prepare = move || -> Call {
+        let shape = parity(&[8, 8, 8, 2]).shape;
+        let network = long_network(&shape, records);
+        let mut work = vec![0; records];
+        Box::new(move |calls| calls.evaluate(&network, &shape, &mut work, 777))
+    };
+    Case { name: format!("evaluate {records} records"), growth: None, prepare: Box::new(prepare) }
+}
+
+fn check(name: &str, table: OwnedTable) -> Case {
+    let prepare = move || -> Call {
+        let table = table.clone();
+        let network = network(&table);
+        let mut work = vec![0; network.len() / 16];
+        Box::new(move |calls| calls.check(&network, table.lent(), &mut work))
+    };
+    Case { name: format!("check {name}"), growth: None, prepare: Box::new(prepare) }
+}
+
+const LARGEST: [u8; 8] = [8, 2, 2, 2, 2, 2, 2, 2];
+
+fn monks_2() -> OwnedTable {
+    function(&[3, 3, 2, 3, 4, 2], 2, |values| (values.iter().filter(|&&value| value == 0).count() == 2) as usize)
+}
+
+/// Of the first two conditions, and of the last two, the greater; of these the lesser.
+fn joinable() -> OwnedTable {
+    function(&[8, 8, 8, 2], 16, |v| (v[0].max(v[1])).min(2 * v[2].max(v[3])) as usize)
+}
+
+pub fn all() -> Vec<Case> {
+    let halves = Sets { s: 0b0011, t: 0b1100 };
+    let mut cases = vec![
+        read("8 cells", parity(&[2; 3])),
+        read("1,024 cells", random(&LARGEST, 16)),
+        join("first block, 1,024 cells", joinable(), Gate::Min, halves, false),
+        join("second block, 1,024 cells", joinable(), Gate::Min, halves, true),
+        join("that does not exist, 1,024 cells", parity(&LARGEST), Gate::Max, halves, false),
+        compile("8 2⁷ random, m 16", None, random(&LARGEST, 16)),
+        compile("8 8 8 2 sum mod 16", None, function(&[8, 8, 8, 2], 16, sum)),
+        compile("8 8 8 2 that joins", None, joinable()),
+        compile("monks 2", None, monks_2()),
+    ];
+    let growing = [("2⁴", 4), ("2⁵", 5), ("2⁶", 6), ("2⁷", 7), ("2⁸", 8)].map(|(name, count)| (name, vec![2; count]));
+    let largest = [("4 2⁷", 4), ("8 2⁷", 8)].map(|(name, first)| (name, [&[first], &LARGEST[1..]].concat()));
+    for (name, cards) in growing.into_iter().chain(largest) {
+        cases.push(compile(&format!("{name} parity"), Some("parity, m 2"), parity(&cards)));
+        cases.push(compile(&format!("{name} random, m 4"), Some("random, m 4"), random(&cards, 4)));
+    }
+    cases.extend([1024, 2048, 4096].map(evaluate));
+    cases.extend([check("monks 2", monks_2()), check("8 2⁷ parity", parity(&LARGEST))]);
+    cases
+}

@@ -1,0 +1,82 @@
+//! Evaluating and checking: a scan of all records, then a run over them for each cell.
+
+use super::shape::Shape;
+use super::{Answer, refuse_if};
+use crate::Table;
+
+const RECORD: usize = 16;
+const MOST_RECORDS: usize = 4096;
+
+fn input(record: &[u8], at: usize) -> usize {
+    record[at] as usize | (record[at + 1] as usize) << 8
+}
+
+fn sound(record: &[u8], number: usize, shape: &Shape) -> bool {
+    let zero = |from: usize, to: usize| record[from..to].iter().all(|&byte| byte == 0);
+    match record[0] {
+        0 => record[1] < shape.grades && zero(2, RECORD),
+        1 => {
+            let condition = record[1] as usize;
+            if condition >= shape.conditions {
+                return false;
+            }
+            let past = 8 + shape.places.card(condition);
+            record[8..past].iter().all(|&grade| grade < shape.grades) && zero(past, RECORD) && zero(2, 8)
+        }
+        2 | 3 => input(record, 4) < number && input(record, 6) < number && zero(1, 4) && zero(8, RECORD),
+        _ => false,
+    }
+}
+
+fn judge(network: &[u8], shape: &Shape) -> Answer<()> {
+    refuse_if(
+        network.is_empty() || !network.len().is_multiple_of(RECORD) || network.len() > MOST_RECORDS * RECORD,
+        11,
+    )?;
+    let fault = network.chunks_exact(RECORD).enumerate().any(|(number, record)| !sound(record, number, shape));
+    refuse_if(fault, 11)
+}
+
+/// The network's grade at a cell, with the grade of every record left in the work buffer.
+fn grade(network: &[u8], shape: &Shape, work: &mut [u8], cell: usize) -> u8 {
+    let mut values = [0; 8];
+    let mut rest = cell;
+    for (condition, value) in values.iter_mut().enumerate().take(shape.conditions) {
+        *value = rest % shape.places.card(condition);
+        rest /= shape.places.card(condition);
+    }
+    let mut last = 0;
+    for (number, record) in network.chunks_exact(RECORD).enumerate() {
+        last = match record[0] {
+            0 => record[1],
+            1 => record[8 + values[record[1] as usize]],
+            2 => work[input(record, 4)].min(work[input(record, 6)]),
+            _ => work[input(record, 4)].max(work[input(record, 6)]),
+        };
+        work[number] = last;
+    }
+    last
+}
+
+pub fn evaluate(network: &[u8], shape: &[u8], work: &mut [u8], cell: u32) -> Answer<u32> {
+    let shape = Shape::from_bytes(shape)?;
+    refuse_if(work.len() < network.len() / RECORD, 10)?;
+    judge(network, &shape)?;
+    refuse_if(cell as usize >= shape.cells, 12)?;
+    Ok(grade(network, &shape, work, cell as usize) as u32)
+}
+
+pub fn check(network: &[u8], table: Table, work: &mut [u8]) -> Answer<u32> {
+    let shape = Shape::from_bytes(table.shape)?;
+    let shortest = table.lower.len().min(table.upper.len());
+    refuse_if(shortest < shape.cells || work.len() < network.len() / RECORD, 10)?;
+    shape.judge_limits(table.lower, table.upper)?;
+    judge(network, &shape)?;
+    for cell in 0..shape.cells {
+        let grade = grade(network, &shape, work, cell);
+        if grade < table.lower[cell] || grade > table.upper[cell] {
+            return Ok(1 + 16 * cell as u32 + grade as u32);
+        }
+    }
+    Ok(0)
+}

@@ -1,0 +1,64 @@
+//! Tables that own their bytes, made by rule, and their files.
+
+use crate::Table;
+
+/// What can be lent as a table: any bytes.
+#[derive(Clone, Debug, PartialEq, Eq)]
+pub struct OwnedTable {
+    pub shape: Vec<u8>,
+    pub lower: Vec<u8>,
+    pub upper: Vec<u8>,
+}
+
+/// The values of a cell's conditions.
+fn values(cards: &[u8], mut cell: usize) -> Vec<u8> {
+    let value = |&card: &u8| {
+        let value = cell % card as usize;
+        cell /= card as usize;
+        value as u8
+    };
+    cards.iter().map(value).collect()
+}
+
+impl OwnedTable {
+    /// A table by a rule from values to limits.
+    pub fn by_rule(cards: &[u8], grades: u8, mut rule: impl FnMut(&[u8]) -> (u8, u8)) -> OwnedTable {
+        let mut shape = vec![cards.len() as u8];
+        shape.extend(cards);
+        shape.resize(9, 0);
+        shape.push(grades);
+        let cells: usize = cards.iter().map(|&card| card as usize).product();
+        let (lower, upper) = (0..cells).map(|cell| rule(&values(cards, cell))).unzip();
+        OwnedTable { shape, lower, upper }
+    }
+
+    pub fn lent(&self) -> Table<'_> {
+        Table { shape: &self.shape, lower: &self.lower, upper: &self.upper }
+    }
+
+    /// The length of the lower limits: the number of cells, where nothing is amiss.
+    pub fn cells(&self) -> usize {
+        self.lower.len()
+    }
+
+    /// The table's file; `lists` decides for each cell that allows every grade whether it is listed.
+    pub fn file(&self, mut lists: impl FnMut() -> bool) -> Vec<u8> {
+        let cards = &self.shape[1..=self.shape[0] as usize];
+        let grades = self.shape[9];
+        let mut file = vec![];
+        let mut record = |bytes: &[u8]| {
+            file.extend(bytes);
+            file.resize(file.len().next_multiple_of(16), 0);
+        };
+        for (number, &card) in cards.iter().enumerate() {
+            record(&[1, number as u8, card]);
+        }
+        record(&[2, grades]);
+        for (cell, (&lower, &upper)) in self.lower.iter().zip(&self.upper).enumerate() {
+            if (lower, upper) != (0, grades - 1) || lists() {
+                record(&[&[3, lower, upper, 0, 0, 0, 0, 0], values(cards, cell).as_slice()].concat());
+            }
+        }
+        file
+    }
+}

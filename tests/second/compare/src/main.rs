@@ -1,0 +1,114 @@
+//! Runs the calls of the library beside the oracle.
+//!
+//!     compare [vectors] [--against plain|library] [--seed N] [--seconds S | --hours H]
+//!
+//! One run is every table of the tiny shapes and what the seed decides. With a time, it goes on with new seeds. With
+//! `vectors`, it is the published tables instead.
+
+mod lent;
+mod random;
+mod rounds;
+mod session;
+mod tables;
+mod vectors;
+
+use calls::{Calls, plain::Plain};
+use session::{Outcome, Session};
+use std::process::ExitCode;
+use std::time::{Duration, Instant};
+
+const USAGE: &str = "compare [vectors] [--against plain|library] [--seed N] [--seconds S | --hours H]";
+const DEFAULT_SEED: u64 = 1;
+
+struct Options {
+    vectors: bool,
+    against: Box<dyn Calls>,
+    seed: u64,
+    time: Duration,
+}
+
+#[cfg(feature = "library")]
+fn default_calls() -> Box<dyn Calls> {
+    Box::new(calls::library::Library)
+}
+
+#[cfg(not(feature = "library"))]
+fn default_calls() -> Box<dyn Calls> {
+    Box::new(Plain)
+}
+
+fn options() -> Option<Options> {
+    let mut options = Options { vectors: false, against: default_calls(), seed: DEFAULT_SEED, time: Duration::ZERO };
+    let mut words = std::env::args().skip(1);
+    while let Some(word) = words.next() {
+        if word == "vectors" {
+            options.vectors = true;
+            continue;
+        }
+        let value = words.next()?;
+        let seconds = |each: f64| Duration::try_from_secs_f64(value.parse::<f64>().ok()? * each).ok();
+        match (word.as_str(), value.as_str()) {
+            ("--against", "plain") => options.against = Box::new(Plain),
+            ("--against", "library") if cfg!(feature = "library") => options.against = default_calls(),
+            ("--seed", _) => options.seed = value.parse().ok()?,
+            ("--seconds", _) => options.time = seconds(1.0)?,
+            ("--hours", _) => options.time = seconds(3600.0)?,
+            _ => return None,
+        }
+    }
+    Some(options)
+}
+
+/// Prints how a session ended, and its report if there is a difference.
+fn conclude(outcome: &Outcome<()>, line: &str) {
+    if let Err(report) = outcome {
+        println!("{report}");
+    }
+    println!("{line}, {} differences", outcome.is_err() as u8);
+}
+
+/// A session on the published tables; whether all was equal.
+fn published(calls: &dyn Calls) -> bool {
+    let mut session = Session::new(calls, DEFAULT_SEED);
+    let outcome = vectors::run(&mut session);
+    conclude(&outcome, &format!("vectors: {} cases", session.cases));
+    outcome.is_ok()
+}
+
+/// A session on the tables that a seed decides; whether all was equal and each refusal was seen.
+fn compare(calls: &dyn Calls, seed: u64, with_tiny: bool) -> bool {
+    let mut session = Session::new(calls, seed);
+    let tiny = if with_tiny { rounds::tiny(&mut session) } else { Ok(()) };
+    let outcome = tiny.and_then(|()| rounds::round(&mut session));
+    let unseen = session.unseen();
+    let refusals = match &outcome {
+        Err(_) => "seen until the difference only".into(),
+        Ok(()) if unseen.is_empty() => "seen 1..12".into(),
+        Ok(()) => format!("not seen {unseen:?}"),
+    };
+    conclude(&outcome, &format!("compare: {} cases, seed {seed}, refusals {refusals}", session.cases));
+    outcome.is_ok() && unseen.is_empty()
+}
+
+fn main() -> ExitCode {
+    let Some(Options { vectors, against, seed, time }) = options() else {
+        eprintln!("{USAGE}");
+        return ExitCode::from(2);
+    };
+    if vectors {
+        return exit_code(published(&*against));
+    }
+    let start = Instant::now();
+    let mut seed = seed;
+    let mut equal = compare(&*against, seed, true);
+    while equal && start.elapsed() < time {
+        seed = seed.wrapping_add(1);
+        // The tables of the tiny shapes are the same for every seed.
+        equal = compare(&*against, seed, false);
+    }
+    exit_code(equal)
+}
+
+fn exit_code(equal: bool) -> ExitCode {
+    if equal { ExitCode::SUCCESS } else { ExitCode::FAILURE }
+}

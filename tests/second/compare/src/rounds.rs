@@ -1,0 +1,387 @@
+//! What a run compares.
+
+use crate::random::Random;
+use crate::session::{Join, Outcome, Session};
+use crate::tables::{all_tables, cardinality_lists, some_table};
+use calls::Gate;
+use calls::tables::OwnedTable;
+
+const GATES: [Gate; 2] = [Gate::Max, Gate::Min];
+/// Values that a byte is changed to, beside its neighbours and noise.
+const WRONG: [u8; 9] = [0, 1, 2, 3, 4, 8, 9, 16, 255];
+
+/// The bytes that compiling asks for as network.
+fn network_room(cells: usize) -> usize {
+    16 * if cells == 1 { 1 } else { 3 * cells - 5 }
+}
+
+/// Everything that the tiny shapes have.
+pub fn tiny(session: &mut Session) -> Outcome<()> {
+    for (cards, grades) in [(&[2, 2][..], 2), (&[2, 2], 3), (&[2, 3], 2), (&[2, 2, 2], 2)] {
+        for table in all_tables(cards, grades) {
+            whole_table(session, &table)?;
+        }
+    }
+    Ok(())
+}
+
+/// A round of cases that the session's seed decides.
+pub fn round(session: &mut Session) -> Outcome<()> {
+    every_shape(session)?;
+    damaged_files(session)?;
+    damaged_networks(session)?;
+    lent_lengths(session)?;
+    lent_shapes_and_limits(session)?;
+    lent_sets(session)?;
+    foreign_networks(session)
+}
+
+/// Every list of cardinalities, rising and falling, each with a table.
+fn every_shape(session: &mut Session) -> Outcome<()> {
+    for rising in cardinality_lists() {
+        let falling: Vec<u8> = rising.iter().rev().copied().collect();
+        let both = [rising.clone(), falling];
+        for cards in &both[..if both[0] == both[1] { 1 } else { 2 }] {
+            let grades = 2 + session.random.below(15) as u8;
+            let table = some_table(cards, grades, &mut session.random);
+            whole_table(session, &table)?;
+            let sound = table.file(|| session.random.once_in(2));
+            for _ in 0..8 {
+                let damaged = damage(&sound, &mut session.random);
+                session.read(&damaged, [10, 1024, 1024])?;
+            }
+        }
+    }
+    Ok(())
+}
+
+/// A file with a few bytes changed, or with two records exchanged.
+fn damage(sound: &[u8], random: &mut Random) -> Vec<u8> {
+    let mut file = sound.to_vec();
+    if random.once_in(4) {
+        let mut records: Vec<&[u8]> = sound.chunks(16).collect();
+        let (one, two) = (random.below(records.len()), random.below(records.len()));
+        records.swap(one, two);
+        return records.concat();
+    }
+    for _ in 0..=random.below(3) {
+        let at = random.below(file.len());
+        file[at] = random.byte() % 20;
+    }
+    file
+}
+
+/// Its file, its network and its joins, in buffers that are now and then longer than asked.
+fn whole_table(session: &mut Session, table: &OwnedTable) -> Outcome<()> {
+    let cells = table.cells();
+    let mut longer = |asked: usize| asked + session.random.pick(&[0, 0, 0, 1, 17, 1000]);
+    let rooms = [10, cells, cells].map(&mut longer);
+    let [work, room] = [16 * cells, network_room(cells)].map(&mut longer);
+    let bytes = table.file(|| session.random.once_in(2));
+    session.read(&bytes, rooms)?;
+    let network = session.compile(table, work, room)?.unwrap_or_default();
+    let work = network.len() / 16 + session.random.below(3);
+    session.check(&network, table, work)?;
+    for number in 0..cells.min(8) {
+        let cell = if cells <= 8 { number } else { session.random.below(cells) };
+        session.evaluate(&network, &table.shape, work, cell as u32)?;
+    }
+    for (s, t) in some_sets(table.shape[0], &mut session.random) {
+        for gate in GATES {
+            both_blocks(session, table, Join { gate, s, t })?;
+        }
+    }
+    Ok(())
+}
+
+/// All pairs of sets of up to three conditions, a few of more.
+fn some_sets(conditions: u8, random: &mut Random) -> Vec<(u8, u8)> {
+    let mut pairs = vec![(0u8, 0u8)];
+    for condition in 0..conditions {
+        let bit = 1 << condition;
+        pairs = pairs.into_iter().flat_map(|(s, t)| [(s, t), (s | bit, t), (s, t | bit)]).collect();
+    }
+    pairs.retain(|&(s, t)| s != 0 && t != 0);
+    if conditions > 3 {
+        // Small sets join more often.
+        pairs.sort_by_key(|&(s, t)| (s | t).count_ones());
+        let small = pairs.len() / 8 + 1;
+        pairs = [small, small, pairs.len()].map(|most| pairs[random.below(most)]).to_vec();
+    }
+    pairs
+}
+
+/// The first block, and the second for first blocks that are sound, and for some that are not.
+fn both_blocks(session: &mut Session, table: &OwnedTable, join: Join) -> Outcome<()> {
+    let rooms = [table.cells(); 2];
+    let Some([lower, upper]) = session.join(table, join, None, rooms)? else {
+        session.join(table, join, Some(&table.lower), rooms)?;
+        return Ok(());
+    };
+    let between = session.random.byte() % table.shape[9];
+    let clamped: Vec<u8> = lower.iter().zip(&upper).map(|(lower, upper)| between.clamp(*lower, *upper)).collect();
+    let mut changed = clamped.clone();
+    let cell = session.random.below(changed.len());
+    changed[cell] = session.random.pick(&[0, table.shape[9] - 1, table.shape[9], 255, lower[cell], upper[cell]]);
+    for first in [lower, upper, clamped, changed, table.lower.clone()] {
+        session.join(table, join, Some(&first), rooms)?;
+    }
+    Ok(())
+}
+
+/// Values to try at a byte, none that it has.
+fn wrong_values(byte: u8, random: &mut Random) -> Vec<u8> {
+    let mut values = WRONG.to_vec();
+    values.extend([byte.wrapping_add(1), byte.wrapping_sub(1), random.byte()]);
+    values.sort();
+    values.dedup();
+    values.retain(|&value| value != byte);
+    values
+}
+
+fn small_tables(random: &mut Random) -> Vec<OwnedTable> {
+    let parity = OwnedTable::by_rule(&[2, 2, 2], 2, |values| [(0, 0), (1, 1)][values.iter().sum::<u8>() as usize % 2]);
+    let mut tables = vec![parity];
+    for (cards, grades) in [(&[][..], 4), (&[3], 5), (&[2, 3], 3), (&[8, 2], 16), (&[3, 2, 2], 4), (&[2, 2, 2, 2], 3)] {
+        tables.push(some_table(cards, grades, random));
+    }
+    tables
+}
+
+fn damaged_files(session: &mut Session) -> Outcome<()> {
+    for table in small_tables(&mut session.random) {
+        let sound = table.file(|| session.random.once_in(2));
+        let read = |session: &mut Session, file: &[u8]| session.read(file, [10, 1024, 1024]);
+        for at in 0..sound.len() {
+            for value in wrong_values(sound[at], &mut session.random) {
+                let mut file = sound.clone();
+                file[at] = value;
+                read(session, &file)?;
+            }
+        }
+        for length in 0..sound.len() {
+            read(session, &sound[..length])?;
+        }
+        let records: Vec<&[u8]> = sound.chunks(16).collect();
+        for one in 0..records.len() {
+            read(session, &[&records[..one], &records[one + 1..]].concat().concat())?;
+            for two in 0..=records.len() {
+                let mut moved = records.clone();
+                moved.insert(two, records[one]);
+                read(session, &moved.concat())?;
+                moved.remove(if two <= one { one + 1 } else { one });
+                read(session, &moved.concat())?;
+            }
+        }
+    }
+    large_files(session)
+}
+
+/// Files at the limits of length and shape, and random damage to files of any size.
+fn large_files(session: &mut Session) -> Outcome<()> {
+    let condition = |number: usize, card: u8| [&[1, number as u8, card][..], &[0; 13]].concat();
+    let grades = [&[2, 2][..], &[0; 14]].concat();
+    for cards in
+        [&[8, 8, 8, 2][..], &[8, 8, 8, 3], &[2; 8], &[2; 9], &[8, 2, 2, 2, 2, 2, 2, 2], &[7, 7, 7, 3], &[4; 5], &[4; 6]]
+    {
+        let head: Vec<u8> = cards.iter().enumerate().flat_map(|(number, &card)| condition(number, card)).collect();
+        session.read(&[head, grades.clone()].concat(), [10, 1024, 1024])?;
+    }
+    for cards in [&[2, 2, 2, 2, 2, 2, 2, 8][..], &[8, 8, 8, 2], &[5, 5, 5, 5]] {
+        let table = OwnedTable::by_rule(cards, 3, |_| (1, 2));
+        let sound = table.file(|| session.random.once_in(2));
+        session.read(&sound, [10, 1024, 1024])?;
+        for more in [1, 16, 32] {
+            session.read(&[sound.clone(), vec![0; more]].concat(), [10, 1024, 1024])?;
+            session.read(&[sound.clone(), sound[sound.len() - more.min(16)..].to_vec()].concat(), [10, 1024, 1024])?;
+        }
+        for _ in 0..200 {
+            let damaged = damage(&sound, &mut session.random);
+            session.read(&damaged, [10, 1024, 1024])?;
+        }
+    }
+    session.read(&[0; 16_528 + 16], [10, 1024, 1024])?;
+    Ok(())
+}
+
+/// Every byte of a network changed, each time evaluated and checked.
+fn damaged_networks(session: &mut Session) -> Outcome<()> {
+    for table in small_tables(&mut session.random) {
+        let cells = table.cells();
+        let sound = session.compile(&table, 16 * cells, network_room(cells))?.unwrap_or_default();
+        let count = sound.len() / 16;
+        for at in 0..sound.len() {
+            for value in wrong_values(sound[at], &mut session.random).into_iter().chain([(at / 16) as u8]) {
+                let mut network = sound.clone();
+                network[at] = value;
+                let cell = session.random.below(cells) as u32;
+                session.evaluate(&network, &table.shape, count, cell)?;
+                session.check(&network, &table, count)?;
+            }
+        }
+        for length in 0..sound.len() {
+            session.evaluate(&sound[..length], &table.shape, count, 0)?;
+            session.check(&sound[..length], &table, count)?;
+        }
+        for cell in [cells - 1, cells, cells + 1, 1024, 65_536, u32::MAX as usize] {
+            session.evaluate(&sound, &table.shape, count, cell as u32)?;
+        }
+    }
+    Ok(())
+}
+
+/// Each buffer of each call with no byte, one byte too few, as many as asked, and one more.
+fn lent_lengths(session: &mut Session) -> Outcome<()> {
+    for cards in [&[][..], &[2], &[2, 2], &[3, 2], &[2, 2, 2], &[8, 8], &[5, 5, 5], &[8, 8, 8, 2], &[2; 8]] {
+        // A table that joins, so that every call gets as far as its last row.
+        let table = OwnedTable::by_rule(cards, 4, |values| if values.contains(&1) { (2, 3) } else { (1, 1) });
+        let cells = table.cells();
+        let bytes = table.file(|| session.random.once_in(2));
+        let join = Join { gate: Gate::Max, s: 1, t: 2 };
+        let first = session.join(&table, join, None, [cells; 2])?.map_or(vec![0; cells], |[lower, _]| lower);
+        let network = session.compile(&table, 16 * cells, network_room(cells))?.unwrap_or_default();
+        let count = network.len() / 16;
+        let resized = |bytes: &[u8], length: usize| {
+            let mut bytes = bytes.to_vec();
+            bytes.resize(length, 1);
+            bytes
+        };
+        let around = |asked: usize| [0, asked.saturating_sub(1), asked, asked + 1];
+        for buffer in 0..3 {
+            for room in around([10, cells, cells][buffer]) {
+                let mut rooms = [10, cells, cells];
+                rooms[buffer] = room;
+                session.read(&bytes, rooms)?;
+                let mut short = table.clone();
+                let lent = [&mut short.shape, &mut short.lower, &mut short.upper];
+                *lent[buffer] = resized([&table.shape, &table.lower, &table.upper][buffer], room);
+                for gate in GATES {
+                    let join = Join { gate, ..join };
+                    session.join(&short, join, None, [cells; 2])?;
+                    session.join(&short, join, Some(&first), [cells; 2])?;
+                }
+                session.compile(&short, 16 * cells, network_room(cells))?;
+                session.check(&network, &short, count)?;
+                session.evaluate(&network, &short.shape, count, 0)?;
+            }
+        }
+        for room in around(cells) {
+            for gate in GATES {
+                let join = Join { gate, ..join };
+                for rooms in [[room, cells], [cells, room]] {
+                    session.join(&table, join, None, rooms)?;
+                    session.join(&table, join, Some(&first), rooms)?;
+                }
+                session.join(&table, join, Some(&resized(&first, room)), [cells; 2])?;
+            }
+        }
+        for work in around(16 * cells) {
+            session.compile(&table, work, network_room(cells))?;
+        }
+        for room in around(network_room(cells)) {
+            session.compile(&table, 16 * cells, room)?;
+        }
+        for work in around(count) {
+            session.check(&network, &table, work)?;
+            session.evaluate(&network, &table.shape, work, 0)?;
+        }
+    }
+    Ok(())
+}
+
+/// Every call with every byte of a shape changed to every value, and with limits that are wrong at one cell.
+fn lent_shapes_and_limits(session: &mut Session) -> Outcome<()> {
+    let sound = some_table(&[2, 3], 3, &mut session.random);
+    let mut long = OwnedTable { shape: sound.shape.clone(), lower: vec![0; 64], upper: vec![1; 64] };
+    long.lower[..6].copy_from_slice(&sound.lower);
+    long.upper[..6].copy_from_slice(&sound.upper);
+    let network = session.compile(&sound, 96, network_room(6))?.unwrap_or_default();
+    for place in 0..10 {
+        for value in 0..=255 {
+            long.shape[place] = value;
+            every_call(session, &long, &network)?;
+        }
+        long.shape[place] = sound.shape[place];
+    }
+    for cell in 0..8 {
+        for (lower, upper) in [(1, 0), (2, 1), (0, 3), (3, 3), (0, 255), (255, 255), (255, 0), (2, 2)] {
+            let mut wrong = long.clone();
+            (wrong.lower[cell], wrong.upper[cell]) = (lower, upper);
+            every_call(session, &wrong, &network)?;
+        }
+    }
+    Ok(())
+}
+
+fn every_call(session: &mut Session, table: &OwnedTable, network: &[u8]) -> Outcome<()> {
+    let rooms = [table.cells(); 2];
+    let join = Join { gate: session.random.pick(&GATES), s: 1, t: 2 };
+    session.join(table, join, None, rooms)?;
+    session.join(table, join, Some(&table.lower), rooms)?;
+    session.compile(table, 16 * table.cells(), network_room(table.cells()))?;
+    session.check(network, table, network.len() / 16)?;
+    let cell = session.random.below(8) as u32;
+    session.evaluate(network, &table.shape, network.len() / 16, cell)
+}
+
+/// Sets that overlap, are empty, or name conditions that are not there.
+fn lent_sets(session: &mut Session) -> Outcome<()> {
+    for cards in [&[][..], &[4], &[2, 2], &[2, 3, 2], &[2, 2, 2, 2], &[2; 8]] {
+        let table = some_table(cards, 4, &mut session.random);
+        for s in 0..=255 {
+            for t in [0, 1, 2, 3, 6, 16, 128, session.random.byte(), !s] {
+                let join = Join { gate: session.random.pick(&GATES), s, t };
+                session.join(&table, join, None, [table.cells(); 2])?;
+                session.join(&table, join, Some(&table.lower), [table.cells(); 2])?;
+            }
+        }
+    }
+    Ok(())
+}
+
+/// Networks that no compile made: any well-formed records, up to the most and one more.
+fn foreign_networks(session: &mut Session) -> Outcome<()> {
+    for turn in 0..300 {
+        let cards: &[u8] = session.random.pick(&[&[][..], &[5], &[2, 2], &[3, 2, 4], &[8, 8], &[2; 8], &[8, 8, 8, 2]]);
+        let grades = 2 + session.random.below(15) as u8;
+        let table = some_table(cards, grades, &mut session.random);
+        let records = match turn {
+            0 => 4096,
+            1 => 4097,
+            _ => 1 + session.random.below(60),
+        };
+        let network = some_network(cards, grades, records, &mut session.random);
+        session.check(&network, &table, records)?;
+        session.check(&network, &OwnedTable::by_rule(cards, grades, |_| (0, grades - 1)), records)?;
+        for _ in 0..10 {
+            let cell = session.random.below(table.cells() + 1);
+            session.evaluate(&network, &table.shape, records, cell as u32)?;
+        }
+    }
+    Ok(())
+}
+
+fn some_network(cards: &[u8], grades: u8, records: usize, random: &mut Random) -> Vec<u8> {
+    let mut network = vec![];
+    for number in 0..records {
+        let mut record = [0; 16];
+        match random.below(if number == 0 { 2 } else { 6 }) {
+            0 => record[1] = random.byte() % grades,
+            1 if !cards.is_empty() => {
+                let condition = random.below(cards.len());
+                record[..2].copy_from_slice(&[1, condition as u8]);
+                let held = record[8..].iter_mut().take(cards[condition] as usize);
+                held.for_each(|grade| *grade = random.byte() % grades);
+            }
+            1 => record[1] = grades - 1,
+            _ => {
+                record[0] = random.pick(&[2, 3]);
+                for at in [4, 6] {
+                    record[at..at + 2].copy_from_slice(&(random.below(number) as u16).to_le_bytes());
+                }
+            }
+        }
+        network.extend(record);
+    }
+    network
+}

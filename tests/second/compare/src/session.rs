@@ -1,0 +1,182 @@
+//! Makes calls, each beside the oracle: the answer, every byte of every buffer, and the guards around them.
+
+use crate::lent::Lent;
+use crate::random::Random;
+use calls::tables::OwnedTable;
+use calls::{Calls, Gate, Limits, REFUSED, REFUSED_EVALUATION, Sets, Table};
+use oracle::{Answer, file, join, network, stages};
+
+/// The error is a report of the first difference.
+pub type Outcome<T> = Result<T, String>;
+
+#[derive(Clone, Copy, Debug)]
+pub struct Join {
+    pub gate: Gate,
+    pub s: u8,
+    pub t: u8,
+}
+
+/// Lower and upper grades of a block.
+pub type Block = [Vec<u8>; 2];
+
+pub struct Session<'a> {
+    calls: &'a dyn Calls,
+    pub random: Random,
+    pub cases: u64,
+    seen: [bool; 13],
+}
+
+fn lend(table: &OwnedTable, random: &mut Random) -> [Lent; 3] {
+    [("shape", &table.shape), ("lower", &table.lower), ("upper", &table.upper)]
+        .map(|(name, bytes)| Lent::holding(name, bytes, random))
+}
+
+/// The cells of a shape that was accepted.
+fn cells_of(shape: &[u8]) -> usize {
+    oracle::Shape::from_bytes(shape).map_or(0, |shape| shape.count())
+}
+
+/// The table that the first three of some lent buffers make.
+fn table(lent: &[Lent; 3]) -> Table<'_> {
+    let [shape, lower, upper] = lent;
+    Table { shape: shape.bytes(), lower: lower.bytes(), upper: upper.bytes() }
+}
+
+impl<'a> Session<'a> {
+    pub fn new(calls: &'a dyn Calls, seed: u64) -> Session<'a> {
+        Session { calls, random: Random::new(seed), cases: 0, seen: [false; 13] }
+    }
+
+    /// The refusals that no call has answered.
+    pub fn unseen(&self) -> Vec<usize> {
+        (1..=12).filter(|&number| !self.seen[number]).collect()
+    }
+
+    fn settle<T>(
+        &mut self,
+        call: &str,
+        answer: u32,
+        wanted: Answer<(u32, T)>,
+        base: u32,
+        lent: &[&Lent],
+    ) -> Outcome<Option<T>> {
+        self.cases += 1;
+        let (wanted, value) = match wanted {
+            Ok((answer, value)) => (answer, Some(value)),
+            Err(number) => {
+                self.seen[number as usize] = true;
+                (base + number, None)
+            }
+        };
+        let wrong_answer = (answer != wanted).then(|| format!("answer {answer}, expected {wanted}"));
+        match wrong_answer.or_else(|| lent.iter().find_map(|buffer| buffer.difference())) {
+            None => Ok(value),
+            Some(difference) => {
+                let buffers: Vec<String> = lent.iter().map(|buffer| buffer.describe()).collect();
+                Err(format!("case {}: {call}: {difference}\n{}", self.cases, buffers.join("\n")))
+            }
+        }
+    }
+
+    /// Reads a file into buffers of these lengths.
+    pub fn read(&mut self, bytes: &[u8], rooms: [usize; 3]) -> Outcome<Option<OwnedTable>> {
+        let random = &mut self.random;
+        let file = Lent::holding("file", bytes, random);
+        let mut shape = Lent::noise("shape", rooms[0], random);
+        let mut lower = Lent::noise("lower", rooms[1], random);
+        let mut upper = Lent::noise("upper", rooms[2], random);
+        let wanted = file::read(bytes, rooms[0], rooms[1], rooms[2]).map(|read| {
+            shape.expect(&read.shape);
+            lower.expect(&read.lower);
+            upper.expect(&read.upper);
+            (0, OwnedTable { shape: read.shape.to_vec(), lower: read.lower, upper: read.upper })
+        });
+        let limits = Limits { lower: lower.bytes_mut(), upper: upper.bytes_mut() };
+        let answer = self.calls.read(file.bytes(), shape.bytes_mut(), limits);
+        self.settle("read", answer, wanted, REFUSED, &[&file, &shape, &lower, &upper])
+    }
+
+    /// Makes a join, for the second block where a first is given, into buffers of these lengths.
+    pub fn join(
+        &mut self,
+        given: &OwnedTable,
+        join: Join,
+        first: Option<&[u8]>,
+        rooms: [usize; 2],
+    ) -> Outcome<Option<Block>> {
+        let random = &mut self.random;
+        let lent = lend(given, random);
+        let block = Lent::holding("first block", first.unwrap_or(&[]), random);
+        let mut lower = Lent::noise("lower of the block", rooms[0], random);
+        let mut upper = Lent::noise("upper of the block", rooms[1], random);
+        let gate = match join.gate {
+            Gate::Min => oracle::Gate::Min,
+            Gate::Max => oracle::Gate::Max,
+        };
+        let OwnedTable { shape, lower: given_lower, upper: given_upper } = given;
+        let asked = join::Lent { shape, lower: given_lower, upper: given_upper, gate, s: join.s, t: join.t, rooms };
+        let wanted = first.map_or_else(|| asked.first(), |first| asked.second(first)).map(|limits| {
+            let written: Block =
+                [limits.iter().map(|at| at.lower).collect(), limits.iter().map(|at| at.upper).collect()];
+            lower.expect(&written[0]);
+            upper.expect(&written[1]);
+            (0, written)
+        });
+        let limits = Limits { lower: lower.bytes_mut(), upper: upper.bytes_mut() };
+        let sets = Sets { s: join.s, t: join.t };
+        let answer = match first {
+            None => self.calls.join_first(join.gate, table(&lent), sets, limits),
+            Some(_) => self.calls.join_second(join.gate, table(&lent), sets, block.bytes(), limits),
+        };
+        let call = format!("{} block of {join:?}", if first.is_some() { "second" } else { "first" });
+        let [shape, table_lower, table_upper] = &lent;
+        self.settle(&call, answer, wanted, REFUSED, &[shape, table_lower, table_upper, &block, &lower, &upper])
+    }
+
+    /// Compiles with a work and a network buffer of these lengths; the network's bytes.
+    pub fn compile(&mut self, given: &OwnedTable, work: usize, network: usize) -> Outcome<Option<Vec<u8>>> {
+        let lent = lend(given, &mut self.random);
+        let wanted = stages::compile(&given.shape, &given.lower, &given.upper, work, network);
+        let mut work = Lent::noise("work", work, &mut self.random);
+        let mut network = Lent::noise("network", network, &mut self.random);
+        let wanted = wanted.map(|records| {
+            let bytes: Vec<u8> = records.iter().flat_map(|record| record.to_bytes()).collect();
+            network.expect(&bytes);
+            work.leave_free(16 * cells_of(&given.shape));
+            (records.len() as u32, bytes)
+        });
+        let answer = self.calls.compile(table(&lent), work.bytes_mut(), network.bytes_mut());
+        let [shape, lower, upper] = &lent;
+        self.settle("compile", answer, wanted, REFUSED, &[shape, lower, upper, &work, &network])
+    }
+
+    /// Checks a network with a work buffer of this length.
+    pub fn check(&mut self, network: &[u8], given: &OwnedTable, work: usize) -> Outcome<()> {
+        let lent = lend(given, &mut self.random);
+        let wanted = network::check(network, &given.shape, &given.lower, &given.upper, work);
+        let mut work = Lent::noise("work", work, &mut self.random);
+        let wanted = wanted.map(|outside| {
+            work.leave_free(network.len() / 16);
+            (outside.map_or(0, |(cell, grade)| 1 + 16 * cell as u32 + grade as u32), ())
+        });
+        let network = Lent::holding("network", network, &mut self.random);
+        let answer = self.calls.check(network.bytes(), table(&lent), work.bytes_mut());
+        let [shape, lower, upper] = &lent;
+        self.settle("check", answer, wanted, REFUSED, &[&network, shape, lower, upper, &work]).map(|_| ())
+    }
+
+    /// Evaluates a network at a cell with a work buffer of this length.
+    pub fn evaluate(&mut self, network: &[u8], shape: &[u8], work: usize, cell: u32) -> Outcome<()> {
+        let wanted = network::evaluate(network, shape, work, cell);
+        let mut work = Lent::noise("work", work, &mut self.random);
+        let wanted = wanted.map(|grade| {
+            work.leave_free(network.len() / 16);
+            (grade as u32, ())
+        });
+        let network = Lent::holding("network", network, &mut self.random);
+        let shape = Lent::holding("shape", shape, &mut self.random);
+        let answer = self.calls.evaluate(network.bytes(), shape.bytes(), work.bytes_mut(), cell);
+        let call = format!("evaluate at cell {cell}");
+        self.settle(&call, answer, wanted, REFUSED_EVALUATION, &[&network, &shape, &work]).map(|_| ())
+    }
+}
