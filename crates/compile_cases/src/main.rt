@@ -1,0 +1,282 @@
+// Compiles document 01's small tables, the largest shape, and a table for each refusal, and prints
+// what it got: the lengths of the two buffers lent; the number of records and the last one's bytes,
+// or the refusal's number; then whether each buffer kept the bytes that the call had to leave: all
+// of them after a refusal, else those past the records and, of the work buffer, those past sixteen
+// for each cell. Both buffers hold 99 everywhere before.
+use compile::CompileAnswer;
+use printing::number;
+use printing::refused;
+use printing::text;
+use shape::Shape;
+
+// The bytes of a record, and of the work for a cell.
+const RECORD: usize = 16;
+
+fn show_number(name: &[u8], x: usize) {
+    text(name);
+    number(x);
+}
+
+fn show_byte(x: u8) {
+    show_number(b" ", x as usize);
+}
+
+// The last of so many records.
+fn show_last(network: &[u8], count: usize) {
+    text(b", last");
+    for i in 0..network.len() {
+        if i / RECORD + 1 == count {
+            show_byte(network[i]);
+        }
+    }
+}
+
+// Whether all bytes past so many sixteens still hold 99.
+fn kept(buffer: &[u8], sixteens: usize) -> bool {
+    for i in 0..buffer.len() {
+        if sixteens <= i / RECORD && buffer[i] != 99 {
+            return false;
+        }
+    }
+    true
+}
+
+fn show_kept(name: &[u8], buffer: &[u8], sixteens: usize) {
+    text(name);
+    if kept(buffer, sixteens) {
+        text(b" kept");
+    } else {
+        text(b" changed");
+    }
+}
+
+fn show_answer(answer: CompileAnswer, shape: Shape, work: &[u8], network: &[u8]) {
+    match answer {
+        CompileAnswer::Refused(refusal) => {
+            refused(refusal);
+            show_kept(b", work", work, 0);
+            show_kept(b", network", network, 0);
+        }
+        CompileAnswer::Records(count) => {
+            show_number(b"records ", count);
+            show_last(network, count);
+            show_kept(b", work", work, shape.cells());
+            show_kept(b", network", network, count);
+        }
+    }
+}
+
+fn compile_into(
+    name: &[u8],
+    shape: Shape,
+    lower: &[u8],
+    upper: &[u8],
+    work: &mut [u8],
+    network: &mut [u8],
+) {
+    text(name);
+    show_number(b", work ", work.len());
+    show_number(b", network ", network.len());
+    text(b": ");
+    let answer = compile::compile(shape, lower, upper, work, network);
+    show_answer(answer, shape, work, network);
+    text(b"\n");
+}
+
+// With so many bytes of buffers that are as long as the largest table needs.
+fn attempt(
+    name: &[u8],
+    shape: Shape,
+    lower: &[u8],
+    upper: &[u8],
+    work_room: usize,
+    network_room: usize,
+) {
+    let mut work = [99u8; 16384];
+    let mut network = [99u8; 49072];
+    if work_room <= 16384 {
+        if network_room <= 49072 {
+            compile_into(
+                name,
+                shape,
+                lower,
+                upper,
+                &mut work[0..work_room],
+                &mut network[0..network_room],
+            );
+        }
+    }
+}
+
+// A shape of at most four conditions, judged by nobody yet.
+fn shape_of(n: u8, cards: [u8; 4], m: u8) -> Shape {
+    Shape {
+        n,
+        c0: cards[0],
+        c1: cards[1],
+        c2: cards[2],
+        c3: cards[3],
+        c4: 0,
+        c5: 0,
+        c6: 0,
+        c7: 0,
+        m,
+    }
+}
+
+fn next(grade: u8, top: u8) -> u8 {
+    if grade < top { grade + 1 } else { 0 }
+}
+
+// One condition more, whose values lie a step apart: each has the grade that comes next after that
+// of the value before. From zeros, with the conditions by rising step, a cell's grade is then the sum
+// of its values modulo top + 1.
+fn add_condition(grades: &mut [u8], step: usize, top: u8) {
+    for c in step..grades.len() {
+        grades[c] = next(grades[c - step], top);
+    }
+}
+
+fn one_cell(name: &[u8], work: usize, network: usize) {
+    attempt(name, shape_of(0, [0; 4], 4), &[1], &[3], work, network);
+}
+
+fn two_cells(name: &[u8], lower: &[u8], upper: &[u8]) {
+    attempt(name, shape_of(1, [2, 0, 0, 0], 2), lower, upper, 33, 17);
+}
+
+// Two conditions of two values, two grades.
+fn square(name: &[u8], lower: &[u8], upper: &[u8], work: usize, network: usize) {
+    attempt(
+        name,
+        shape_of(2, [2, 2, 0, 0], 2),
+        lower,
+        upper,
+        work,
+        network,
+    );
+}
+
+const E: [u8; 4] = [0, 1, 1, 0];
+
+const EITHER: [u8; 4] = [0, 1, 1, 1];
+
+const BOTH: [u8; 4] = [0, 0, 0, 1];
+
+fn table_e(work: usize, network: usize) {
+    square(b"E", &E, &E, work, network);
+}
+
+fn small() {
+    one_cell(b"one cell", 16, 16);
+    one_cell(b"one cell", 17, 17);
+    one_cell(b"one cell", 16, 15);
+    one_cell(b"one cell", 15, 16);
+    two_cells(b"any grades", &[0, 0], &[1, 1]);
+    two_cells(b"0 and 1", &[0, 1], &[0, 1]);
+    square(b"either", &EITHER, &EITHER, 65, 113);
+    square(b"both", &BOTH, &BOTH, 65, 113);
+    square(b"both to either", &BOTH, &EITHER, 65, 113);
+    table_e(64, 112);
+    table_e(70, 120);
+    table_e(64, 111);
+    table_e(63, 112);
+    attempt(
+        b"F",
+        shape_of(2, [2, 3, 0, 0], 3),
+        &[1, 0, 0, 0, 2, 1],
+        &[2, 1, 2, 0, 2, 2],
+        96,
+        208,
+    );
+}
+
+fn parity(work: usize, network: usize) {
+    let mut grades = [0u8; 8];
+    add_condition(&mut grades, 1, 1);
+    add_condition(&mut grades, 2, 1);
+    add_condition(&mut grades, 4, 1);
+    attempt(
+        b"parity of three",
+        shape_of(3, [2, 2, 2, 0], 2),
+        &grades,
+        &grades,
+        work,
+        network,
+    );
+}
+
+fn parities() {
+    parity(128, 304);
+    parity(130, 310);
+    parity(128, 303);
+    parity(127, 304);
+}
+
+// Sums modulo 16 of three conditions of eight values and one of fewer.
+fn large(name: &[u8], last: u8, work: usize, network: usize) {
+    let mut grades = [0u8; 1024];
+    add_condition(&mut grades, 1, 15);
+    add_condition(&mut grades, 8, 15);
+    add_condition(&mut grades, 64, 15);
+    add_condition(&mut grades, 512, 15);
+    attempt(
+        name,
+        shape_of(4, [8, 8, 8, last], 16),
+        &grades,
+        &grades,
+        work,
+        network,
+    );
+}
+
+fn largest() {
+    large(b"8 8 8 2", 2, 16384, 49072);
+    large(b"8 8 8 2", 2, 16384, 49071);
+    large(b"8 8 8 2", 2, 16383, 49072);
+    large(b"8 8 8 3", 3, 16384, 49072);
+}
+
+fn refusals() {
+    attempt(
+        b"cardinality 1",
+        shape_of(2, [2, 1, 0, 0], 2),
+        &E,
+        &E,
+        64,
+        112,
+    );
+    square(b"E, lower of 3 bytes", &[0, 1, 1], &E, 64, 112);
+    square(b"E, upper of 3 bytes", &E, &[0, 1, 1], 64, 112);
+    square(b"lower above upper", &EITHER, &E, 64, 112);
+    square(b"upper is m", &E, &[0, 1, 1, 2], 64, 112);
+}
+
+// The first of several rows that apply.
+fn orders() {
+    attempt(
+        b"one grade, lower above upper",
+        shape_of(2, [2, 2, 0, 0], 1),
+        &EITHER,
+        &E,
+        63,
+        111,
+    );
+    square(b"lower above upper", &EITHER, &E, 64, 111);
+    square(b"lower above upper", &EITHER, &E, 63, 112);
+    square(
+        b"lower above upper, upper of 3 bytes",
+        &EITHER,
+        &[0, 1, 0],
+        64,
+        112,
+    );
+}
+
+fn main() {
+    small();
+    parities();
+    largest();
+    refusals();
+    orders();
+}
