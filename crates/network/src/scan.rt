@@ -1,10 +1,10 @@
 // Which networks are sound.
 ghost use mathlib.Core.Path.{_≡_};
 ghost use mathlib.Core.Bool.{_&&_, _||_};
-ghost use Prim.Native.Nat.{_+_, _*_, _<_, _≤_};
+ghost use Prim.Native.Nat.{ℕ, _+_, _*_, _<_, _≤_};
 ghost use lib.Dec.{eqb, ltb};
 ghost use lib.ListN.{length};
-ghost use Rattle.rules.specs.Bytes.{at, all, word, recordAt};
+ghost use Rattle.rules.specs.Bytes.{pick, at, all, word, recordAt};
 ghost use Rattle.rules.specs.Cell.{card, present};
 ghost use Rattle.rules.specs.Network.{named, literalByteSound, recordSound, networkSound};
 
@@ -20,16 +20,20 @@ const MUST_BE_ZERO: [[u8; 16]; 4] = [
     [0, 1, 1, 1, 0, 0, 0, 0, 1, 1, 1, 1, 1, 1, 1, 1],
 ];
 
-// Whether byte j of a record of a kind may be what it is.
-fn byte_sound(kind: usize, j: usize, byte: u8) -> bool
-    requires { ⌜ (kind < 4) × (j < 16) ⌝ }
-    ensures { λ q. ⌜ q ≡ (named kind j || eqb byte 0) ⌝ }
+// The table's row for a kind. It is read once for a record, since a constant is laid out anew wherever
+// it is read.
+fn zero_row(kind: usize) -> [u8; 16]
+    requires { ⌜ kind < 4 ⌝ }
+    ensures { λ row. ⌜ ((j : ℕ) → j < 16 → at row j ≡ pick (named kind j) 0 1) ⌝ }
 {
-    if MUST_BE_ZERO[kind][j] == 0 {
-        true
-    } else {
-        byte == 0
-    }
+    MUST_BE_ZERO[kind]
+}
+
+// Whether a byte may be what it is, by its entry in the table.
+fn byte_sound(entry: u8, byte: u8) -> bool
+    ensures { λ q. ⌜ q ≡ (eqb entry 0 || eqb byte 0) ⌝ }
+{
+    if entry == 0 { true } else { byte == 0 }
 }
 
 // Whether every byte that must be zero is.
@@ -37,8 +41,9 @@ fn bytes_sound(r: &[u8], kind: usize) -> bool
     requires { ⌜ (length (now r) ≡ 16) × (kind < 4) ⌝ }
     ensures { λ q. ⌜ q ≡ all 16 (λ j. named kind j || eqb (at (now (r .entry)) j) 0) ⌝ }
 {
+    let row = zero_row(kind);
     for j in 0..RECORD {
-        if !byte_sound(kind, j, r[j]) {
+        if !byte_sound(row[j], r[j]) {
             return false;
         }
     }
