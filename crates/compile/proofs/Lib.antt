@@ -1,3 +1,4 @@
 -- What several proofs use.
 pub mod RowLaws
 pub mod FirstLaws
+pub mod CountLaws

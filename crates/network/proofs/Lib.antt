@@ -10,3 +10,4 @@ pub mod WorkLaws
 pub mod ReadLaws
 pub mod CallLaws
 pub mod CheckLaws
+pub mod BelowLaws

@@ -24,7 +24,7 @@ use Rattle.network.proofs.PartLaws.{record-length}
 
 module _ (ks : List ℕ) (m k : ℕ) (r : List ℕ) (s : T (recordSound ks m k r)) where
   -- the last test of a record of kind 1, and of a gate
-  last-test : (z o : Bool) → eqb (at r 0) 0 ≡ z → eqb (at r 0) 1 ≡ o → T (cond z (ltb (at r 1) m) (cond o (literalSound ks m r) (gateSound k r)))
+  pub last-test : (z o : Bool) → eqb (at r 0) 0 ≡ z → eqb (at r 0) 1 ≡ o → T (cond z (ltb (at r 1) m) (cond o (literalSound ks m r) (gateSound k r)))
   last-test z o p q =
       and-r (bytesSound ks m k r) _
       (and-r (ltb (at r 0) 4) _ (subst T (record-by ks m k r (ltb (at r 0) 4) (bytesSound ks m k r) z o refl refl p q) s))
@@ -52,7 +52,7 @@ module _ (ks : List ℕ) (m : ℕ) (net : List ℕ) (s : networkSound ks m net �
   unfolding each sizes
   split = passes (networkSound ks m net) s
 
-  each-sound : (k : ℕ) → k < length net / 16 → T (recordSound ks m k (recordAt net k))
+  pub each-sound : (k : ℕ) → k < length net / 16 → T (recordSound ks m k (recordAt net k))
   unfolding each
   each-sound = all-at (length net / 16) each (and-r sizes (all (length net / 16) each) split)
 

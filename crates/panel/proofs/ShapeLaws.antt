@@ -1,42 +1,69 @@
--- The verdict on a shape's bytes, by the shape that they make.
+-- What the answer to the bytes of a shape says of a call's verdict.
 use Prim.Native.Nat.{ℕ}
 use mathlib.Core.Path.{_≡_, refl, sym, ap, _∙_}
 use mathlib.Core.Bool.{Bool, true, false, cond}
 use mathlib.Core.List.{List}
 use native.Mathlib.Omega.{arith}
-use borrow.Author.Tests.{eqb-true}
+use borrow.Author.Tests.{eqb-true, eq-eqb}
 use lib.Dec.{eqb}
 use lib.ListN.{length, take, drop, length-take, length-drop}
+use Rattle.rules.specs.declared.Refusal.{Refusal}
 use Rattle.rules.specs.declared.Refusal.the-variants.{ShapeRange}
 use Rattle.rules.specs.Bytes.{at}
 use Rattle.rules.specs.Shape.{shapeSound}
 use Rattle.rules.specs.Verdict.{Verdict, refused}
-use Rattle.rules.specs.NetworkCalls.{evaluateCall}
-use Rattle.shape.specs.declared.ShapeAnswer.{ShapeAnswer}
+use Rattle.shape.specs.declared.Shape.{Shape}
 use Rattle.shape.specs.declared.ShapeAnswer.the-variants.{Accepted, Refused}
-use Rattle.shape.specs.Shapes.{cardsOf, shapeFrom, newShape, shapeOfBytes}
-use Rattle.shape.proofs.ShapeLaws.{cards-from}
-use Rattle.panel.specs.Evaluates.{verdict}
+use Rattle.shape.specs.Shapes.{isSound, shapeOfBytes}
+use Rattle.shape.proofs.ShapeLaws.{sound-from}
+use Rattle.panel.specs.Answers.{lentShape, lent}
 
-module _ (net : List ℕ) (work cell : ℕ) where
-  -- the rows, once the shape is judged
-  abbrev pub shapeVerdict : ShapeAnswer → Verdict ℕ
-  shapeVerdict (Accepted s) = evaluateCall (s .n) (cardsOf s) (s .m) net work cell
-  shapeVerdict (Refused r) = refused r
+-- bytes that are accepted: ten, and this is their shape
+pub record Made (b : List ℕ) (s : Shape) : Type 0 where
+  pub ten : length b ≡ 10
+  pub same : s ≡ lentShape b
 
-  -- of a shape that is sound or not, as q says
-  new-by : (n : ℕ) (l : List ℕ) (m : ℕ) (q : Bool) → length l ≡ 8 → shapeSound n l m ≡ q
-      → evaluateCall n l m net work cell ≡ shapeVerdict (cond q (Accepted (shapeFrom n l m)) (Refused ShapeRange))
-  new-by n l m true e p = ap (λ (cards : List ℕ). evaluateCall n cards m net work cell) (sym (cards-from n l m e))
-  new-by n l m false e p = rw p
+-- rows of which the first is row 4
+abbrev pub FirstFour : {A : Type 0} → (Shape → Verdict A) → Type 0
+FirstFour rows = (s : Shape) → isSound s ≡ false → rows s ≡ refused ShapeRange
 
-  new-verdict : (n : ℕ) (l : List ℕ) (m : ℕ) → length l ≡ 8 → evaluateCall n l m net work cell ≡ shapeVerdict (newShape n l m)
-  new-verdict n l m e = new-by n l m (shapeSound n l m) e refl
+module _ (b : List ℕ) where
+  made-by : (q sound : Bool) (x s : Shape) → cond q (cond sound (Accepted x) (Refused ShapeRange)) (Refused ShapeRange) ≡ Accepted s → (q ≡ true) × (s ≡ x)
+  made-by true true x s e = (refl, cc)
+  made-by true false x s e = let z : _≡_ {A = ℕ} 0 1 = cc in absurd (omega arith)
+  made-by false sound x s e = let z : _≡_ {A = ℕ} 0 1 = cc in absurd (omega arith)
 
-  bytes-by : (b : List ℕ) (q : Bool) → eqb (length b) 10 ≡ q
-      → cond q (evaluateCall (at b 0) (take 8 (drop 1 b)) (at b 9) net work cell) (refused ShapeRange) ≡ shapeVerdict (cond q (newShape (at b 0) (take 8 (drop 1 b)) (at b 9)) (Refused ShapeRange))
-  bytes-by b true e = new-verdict (at b 0) (take 8 (drop 1 b)) (at b 9) (let ten = eqb-true (length b) 10 e in length-take 8 (drop 1 b) ∙ omega (arith, length-drop 1 b))
-  bytes-by b false e = refl
+  pub made : {s : Shape} → shapeOfBytes b ≡ Accepted s → Made b s
+  made {s} e =
+      let m = made-by (eqb (length b) 10) (shapeSound (at b 0) (take 8 (drop 1 b)) (at b 9)) (lentShape b) s e in
+      record { ten = eqb-true (length b) 10 (m .0); same = m .1 }
 
-  pub bytes-verdict : (b : List ℕ) → verdict net b work cell ≡ shapeVerdict (shapeOfBytes b)
-  bytes-verdict b = bytes-by b (eqb (length b) 10) refl
+  -- ten bytes are judged by the rows
+  pub ten-lent : {A : Type 0} (rows : Shape → Verdict A) → length b ≡ 10 → lent b rows ≡ rows (lentShape b)
+  ten-lent rows e = ap (λ (q : Bool). cond q (rows (lentShape b)) (refused ShapeRange)) (eq-eqb (length b) 10 e)
+
+  pub made-lent : {A : Type 0} {s : Shape} (rows : Shape → Verdict A) → Made b s → rows s ≡ lent b rows
+  made-lent rows m = ap rows (m .same) ∙ sym (ten-lent rows (m .ten))
+
+  unmade-by : (q sound : Bool) (x : Shape) (r : Refusal) → cond q (cond sound (Accepted x) (Refused ShapeRange)) (Refused ShapeRange) ≡ Refused r → (r ≡ ShapeRange) × (q ≡ true → sound ≡ false)
+  unmade-by true true x r e = let z : _≡_ {A = ℕ} 0 1 = cc in absurd (omega arith)
+  unmade-by true false x r e = (cc, λ h. refl)
+  unmade-by false sound x r e = (cc, λ h. let z : _≡_ {A = ℕ} 0 1 = cc in absurd (omega arith))
+
+  module _ {r : Refusal} (e : shapeOfBytes b ≡ Refused r) where
+    abbrev unmade : (r ≡ ShapeRange) × (eqb (length b) 10 ≡ true → shapeSound (at b 0) (take 8 (drop 1 b)) (at b 9) ≡ false)
+    unmade = unmade-by (eqb (length b) 10) (shapeSound (at b 0) (take 8 (drop 1 b)) (at b 9)) (lentShape b) r e
+
+    -- what is refused is unsound, if there are ten bytes
+    pub unsound : eqb (length b) 10 ≡ true → isSound (lentShape b) ≡ false
+    unsound q =
+        let ten = eqb-true (length b) 10 q in
+        sound-from (at b 0) (take 8 (drop 1 b)) (at b 9) (length-take 8 (drop 1 b) ∙ omega (arith, length-drop 1 b)) ∙ unmade .1 q
+
+    lent-by : {A : Type 0} (rows : Shape → Verdict A) → FirstFour rows → (q : Bool) → eqb (length b) 10 ≡ q → cond q (rows (lentShape b)) (refused ShapeRange) ≡ refused r
+    lent-by rows f true q = f (lentShape b) (unsound q) ∙ ap refused (sym (unmade .0))
+    lent-by rows f false q = ap refused (sym (unmade .0))
+
+    -- and so is the verdict
+    pub lent-refused : {A : Type 0} (rows : Shape → Verdict A) → FirstFour rows → lent b rows ≡ refused r
+    lent-refused rows f = lent-by rows f (eqb (length b) 10) refl

@@ -1,33 +1,31 @@
 -- What `grades_evaluate` promises.
 use Prim.Native.Nat.{ℕ, _+_, _≤_, _<_}
 use mathlib.Core.Path.{_≡_}
-use mathlib.Core.Bool.{cond}
 use mathlib.Core.List.{List}
-use lib.Dec.{eqb}
-use lib.ListN.{length, take, drop}
-use Rattle.rules.specs.declared.Refusal.the-variants.{ShapeRange}
-use Rattle.rules.specs.Bytes.{at}
+use lib.ListN.{length}
 use Rattle.rules.specs.Refusal.{refusalNumber}
 use Rattle.rules.specs.Verdict.{Verdict, accepted, refused}
 use Rattle.rules.specs.NetworkCalls.{evaluateCall}
+use Rattle.shape.specs.declared.Shape.{Shape}
+use Rattle.shape.specs.Shapes.{cardsOf}
 use Rattle.network.specs.declared.Evaluation.{Evaluation}
 use Rattle.network.specs.declared.Evaluation.the-variants.{Grade}
 use Rattle.network.specs.Evaluating.{evaluationVerdict}
 use Rattle.network.specs.Grades.{Kept}
+use Rattle.panel.specs.Answers.{lent}
 
 -- what C gets: a grade as itself, a refusal as 256 plus its number
 abbrev pub answerNumber : Verdict ℕ → ℕ
 answerNumber (accepted grade) = grade
 answerNumber (refused r) = 256 + refusalNumber r
 
--- the verdict on what C lends: ten bytes of a shape, or refusal 4
-abbrev pub verdict : List ℕ → List ℕ → ℕ → ℕ → Verdict ℕ
-verdict net bytes work cell =
-    cond (eqb (length bytes) 10) (evaluateCall (at bytes 0) (take 8 (drop 1 bytes)) (at bytes 9) net work cell) (refused ShapeRange)
+-- the rows of document 01 for evaluating
+abbrev pub evaluateRows : List ℕ → ℕ → ℕ → Shape → Verdict ℕ
+evaluateRows net work cell shape = evaluateCall (shape .n) (cardsOf shape) (shape .m) net work cell
 
 -- the answer by the rows of document 01; the work buffer stays past a byte for each whole sixteen of the network, and all of it stays under a refusal
 pub record Evaluates (net bytes : List ℕ) (cell : ℕ) (work after : List ℕ) (r : ℕ) : Type 0 where
-  pub answer : r ≡ answerNumber (verdict net bytes (length work) cell)
+  pub answer : r ≡ answerNumber (lent bytes (evaluateRows net (length work) cell))
   pub refusal-keeps : 256 ≤ r → after ≡ work
   pub kept : Kept net work after
 

@@ -1,32 +1,178 @@
-// What the C program of a door panel calls.
-ghost use Rattle.panel.specs.Evaluates.{Answered, Evaluates};
+// What C programs call. Each shape that is lent is ten bytes: the number of conditions, the eight
+// cardinalities, the number of grades.
+ghost use Rattle.rules.specs.declared.Gate.the-variants.{Min, Max};
+ghost use Rattle.panel.specs.Evaluates.{Evaluates};
+ghost use Rattle.panel.specs.Reads.{Reads};
+ghost use Rattle.panel.specs.Joins.{JoinsFirst, JoinsSecond};
+ghost use Rattle.panel.specs.Compiles.{Compiles};
+ghost use Rattle.panel.specs.Checks.{Checks};
 use network::Evaluation;
+use rules::Gate;
 use shape::Shape;
 use shape::ShapeAnswer;
+use table_file::TableAnswer;
 
-// What C adds to a refusal's number, so that no refusal is a grade.
-const REFUSED: u32 = 256;
+pub mod answers;
+pub mod joins;
+pub mod reading;
 
-// A grade as itself, a refusal as 256 and its number.
-fn answer(evaluation: Evaluation) -> u32
-    ensures { λ r. ⌜ Answered evaluation r ⌝ }
-{
-    match evaluation {
-        Evaluation::Grade(grade) => grade as u32,
-        Evaluation::Refused(refusal) => REFUSED + refusal.number(),
-    }
-}
-
-// The grade of a network at a cell. The shape is ten bytes: the number of conditions, the eight
-// cardinalities, the number of grades. The work buffer has a byte for each record.
+// The grade of a network at a cell. The work buffer has a byte for each record.
 #[no_mangle]
 pub extern "C" fn grades_evaluate(network: &[u8], shape: &[u8], work: &mut [u8], cell: u32) -> u32
     ensures { λ r. ⌜ Evaluates (now (network .entry)) (now (shape .entry)) cell (now (work .entry)) (now (work .exit)) r ⌝ }
 {
     match Shape::from_bytes(shape) {
         ShapeAnswer::Accepted(shape) => {
-            answer(network::evaluate(network, shape, work, cell as usize))
+            answers::of_evaluation(network::evaluate(network, shape, work, cell as usize))
         }
-        ShapeAnswer::Refused(refusal) => answer(Evaluation::Refused(refusal)),
+        ShapeAnswer::Refused(refusal) => answers::of_evaluation(Evaluation::Refused(refusal)),
+    }
+}
+
+// The table that a file holds: its shape's ten bytes, and its limits.
+#[no_mangle]
+pub extern "C" fn grades_read(
+    file: &[u8],
+    shape: &mut [u8],
+    lower: &mut [u8],
+    upper: &mut [u8],
+) -> u32
+    ensures { λ r. ⌜ Reads (now (file .entry)) (now (shape .entry)) (now (lower .entry)) (now (upper .entry)) r (now (shape .exit)) (now (lower .exit)) (now (upper .exit)) ⌝ }
+{
+    if shape.len() < Shape::BYTES {
+        return reading::no_room(file);
+    }
+    match table_file::read_table(file, lower, upper) {
+        TableAnswer::Refused(refusal) => answers::of_refusal(refusal),
+        TableAnswer::Table(table) => {
+            reading::put_shape(table, shape);
+            0
+        }
+    }
+}
+
+// The limits of a max join's first block.
+#[no_mangle]
+pub extern "C" fn grades_join_max_first(
+    shape: &[u8],
+    lower: &[u8],
+    upper: &[u8],
+    s: u8,
+    t: u8,
+    out_lower: &mut [u8],
+    out_upper: &mut [u8],
+) -> u32
+    ensures { λ r. ⌜ JoinsFirst Max (now (shape .entry)) (now (lower .entry)) (now (upper .entry)) s t (now («out_lower» .entry)) (now («out_upper» .entry)) r (now («out_lower» .exit)) (now («out_upper» .exit)) ⌝ }
+{
+    joins::first(Gate::Max, shape, lower, upper, s, t, out_lower, out_upper)
+}
+
+// The limits of a min join's first block.
+#[no_mangle]
+pub extern "C" fn grades_join_min_first(
+    shape: &[u8],
+    lower: &[u8],
+    upper: &[u8],
+    s: u8,
+    t: u8,
+    out_lower: &mut [u8],
+    out_upper: &mut [u8],
+) -> u32
+    ensures { λ r. ⌜ JoinsFirst Min (now (shape .entry)) (now (lower .entry)) (now (upper .entry)) s t (now («out_lower» .entry)) (now («out_upper» .entry)) r (now («out_lower» .exit)) (now («out_upper» .exit)) ⌝ }
+{
+    joins::first(Gate::Min, shape, lower, upper, s, t, out_lower, out_upper)
+}
+
+// The limits of a max join's second block, given the first.
+#[no_mangle]
+pub extern "C" fn grades_join_max_second(
+    shape: &[u8],
+    lower: &[u8],
+    upper: &[u8],
+    s: u8,
+    t: u8,
+    g: &[u8],
+    out_lower: &mut [u8],
+    out_upper: &mut [u8],
+) -> u32
+    ensures { λ r. ⌜ JoinsSecond Max (now (shape .entry)) (now (lower .entry)) (now (upper .entry)) s t (now (g .entry)) (now («out_lower» .entry)) (now («out_upper» .entry)) r (now («out_lower» .exit)) (now («out_upper» .exit)) ⌝ }
+{
+    joins::second(
+        Gate::Max,
+        shape,
+        lower,
+        upper,
+        s,
+        t,
+        g,
+        out_lower,
+        out_upper,
+    )
+}
+
+// The limits of a min join's second block, given the first.
+#[no_mangle]
+pub extern "C" fn grades_join_min_second(
+    shape: &[u8],
+    lower: &[u8],
+    upper: &[u8],
+    s: u8,
+    t: u8,
+    g: &[u8],
+    out_lower: &mut [u8],
+    out_upper: &mut [u8],
+) -> u32
+    ensures { λ r. ⌜ JoinsSecond Min (now (shape .entry)) (now (lower .entry)) (now (upper .entry)) s t (now (g .entry)) (now («out_lower» .entry)) (now («out_upper» .entry)) r (now («out_lower» .exit)) (now («out_upper» .exit)) ⌝ }
+{
+    joins::second(
+        Gate::Min,
+        shape,
+        lower,
+        upper,
+        s,
+        t,
+        g,
+        out_lower,
+        out_upper,
+    )
+}
+
+// The network of a table: how many records were written. The work buffer has 16 bytes for each
+// cell, the network buffer 16 for each of the most records that there can be.
+#[no_mangle]
+pub extern "C" fn grades_compile(
+    shape: &[u8],
+    lower: &[u8],
+    upper: &[u8],
+    work: &mut [u8],
+    network: &mut [u8],
+) -> u32
+    ensures { λ r. ⌜ Compiles (now (shape .entry)) (now (lower .entry)) (now (upper .entry)) (now (work .entry)) (now (network .entry)) r (now (work .exit)) (now (network .exit)) ⌝ }
+{
+    match Shape::from_bytes(shape) {
+        ShapeAnswer::Refused(refusal) => answers::of_refusal(refusal),
+        ShapeAnswer::Accepted(shape) => {
+            answers::of_compile(compile::compile(shape, lower, upper, work, network))
+        }
+    }
+}
+
+// Whether a network keeps within a table's limits: 0, or a number for the first cell outside and
+// its grade there. The work buffer has a byte for each record.
+#[no_mangle]
+pub extern "C" fn grades_check(
+    network: &[u8],
+    shape: &[u8],
+    lower: &[u8],
+    upper: &[u8],
+    work: &mut [u8],
+) -> u32
+    ensures { λ r. ⌜ Checks (now (network .entry)) (now (shape .entry)) (now (lower .entry)) (now (upper .entry)) (now (work .entry)) r (now (work .exit)) ⌝ }
+{
+    match Shape::from_bytes(shape) {
+        ShapeAnswer::Refused(refusal) => answers::of_refusal(refusal),
+        ShapeAnswer::Accepted(shape) => {
+            answers::of_check(network::check(network, shape, lower, upper, work))
+        }
     }
 }

@@ -3,7 +3,7 @@ use mathlib.Core.Path.{_≡_}
 use native.Mathlib.Omega.{arith}
 use lib.ListN.{length}
 use borrow.Author.Needs.{needs}
-use Rattle.grades.proofs.ListingLaws.{shape-sound, few-records}
+use Rattle.compile.proofs.CountLaws.{shape-sound, few-records}
 use Rattle.grades.proofs.compile_table.Statement.{statement}
 use Rattle.grades.proofs.compile_table.Tie as tie
 

@@ -1,7 +1,8 @@
 -- `panel::grades_evaluate` meets its contract.
 use mathlib.Core.Path.{sym, _∙_}
 use borrow.Author.Needs.{needs}
-use Rattle.panel.proofs.AnswerLaws.{evaluates, refuses}
+use Rattle.panel.proofs.ShapeLaws.{made}
+use Rattle.panel.proofs.EvaluateLaws.{evaluates, refuses}
 use Rattle.panel.proofs.grades_evaluate.Statement.{statement}
 use Rattle.panel.proofs.grades_evaluate.Tie as tie
 
@@ -14,14 +15,14 @@ enum-known-shape c = search needs
 evaluate-requires : tie.Need-evaluate-requires
 evaluate-requires c κs = search needs
 
-answer-requires : tie.Need-answer-requires
-answer-requires c κs = search needs
+of-evaluation-requires : tie.Need-of-evaluation-requires
+of-evaluation-requires c κs = search needs
 
 enum-known-refusal : tie.Need-enum-known-refusal
 enum-known-refusal c = search needs
 
-answer-requires-2 : tie.Need-answer-requires-2
-answer-requires-2 c κs = search needs
+of-evaluation-requires-2 : tie.Need-of-evaluation-requires-2
+of-evaluation-requires-2 c κs = search needs
 
 same-length : tie.Need-same-length
 same-length c = search needs
@@ -30,13 +31,13 @@ returns : tie.Need-returns
 returns c =
     let a = c .before .before .before .before .before .before .before .before .before .before .before .before .args in
     let at-shape = c .before .before .before .before .before .before in
-    evaluates (a .network .now) (a .shape .now) (a .cell) (a .work .now) _ _ _ _ (sym (at-shape .before .before .from-bytes .ensures) ∙ at-shape .shape .given .1) (c .before .before .before .evaluate .ensures) (c .answer .ensures)
+    evaluates (a .network .now) (a .shape .now) (a .cell) (a .work .now) _ _ _ _ (made (a .shape .now) (sym (at-shape .before .before .from-bytes .ensures) ∙ at-shape .shape .given .1)) (c .before .before .before .evaluate .ensures) (c .of-evaluation .ensures)
 
 returns-2 : tie.Need-returns-2
 returns-2 c =
     let a = c .before .before .before .before .before .before .before .before .args in
     let at-refusal = c .before .before in
-    refuses (a .network .now) (a .shape .now) (a .cell) (a .work .now) _ _ (sym (at-refusal .before .before .from-bytes .ensures) ∙ at-refusal .refusal .given .1) (c .answer2 .ensures)
+    refuses (a .network .now) (a .shape .now) (a .cell) (a .work .now) _ _ (sym (at-refusal .before .before .from-bytes .ensures) ∙ at-refusal .refusal .given .1) (c .of-evaluation2 .ensures)
 
 pub grades-evaluate-spec : {M : Type 1} → statement M
 grades-evaluate-spec =
@@ -45,9 +46,9 @@ grades-evaluate-spec =
     from-bytes-requires
     enum-known-shape
     evaluate-requires
-    answer-requires
+    of-evaluation-requires
     enum-known-refusal
-    answer-requires-2
+    of-evaluation-requires-2
     same-length
     returns
     returns-2)

@@ -1,31 +1,14 @@
--- `panel::answer` meets its contract.
+-- `panel::answers::of_evaluation` meets its contract.
 use mathlib.Core.Path.{_≡_, ap}
-use Prim.Native.Nat.{ℕ, _≤_}
+use Prim.Native.Nat.{ℕ}
 use native.Mathlib.Omega.{arith}
 use borrow.Author.Needs.{needs}
-use Rattle.rules.specs.declared.Refusal.{Refusal}
-use Rattle.rules.specs.declared.Refusal.the-variants.{FileLength, RecordBytes, RecordOrder, ShapeRange, GradeLimits, CellValues, Sets, NoJoin, FirstBlock, ShortBuffer, Network, CellNumber}
-use Rattle.rules.specs.Refusal.{refusalNumber}
 use Rattle.network.specs.declared.Evaluation.{Evaluation}
 use Rattle.network.specs.Evaluating.{evaluationVerdict}
 use Rattle.panel.specs.Evaluates.{answerNumber}
-use Rattle.panel.proofs.answer.Statement.{statement}
-use Rattle.panel.proofs.answer.Tie as tie
-
--- a refusal's number leaves room for 256
-small : (r : Refusal) → refusalNumber r ≤ 12
-small FileLength = omega arith
-small RecordBytes = omega arith
-small RecordOrder = omega arith
-small ShapeRange = omega arith
-small GradeLimits = omega arith
-small CellValues = omega arith
-small Sets = omega arith
-small NoJoin = omega arith
-small FirstBlock = omega arith
-small ShortBuffer = omega arith
-small Network = omega arith
-small CellNumber = omega arith
+use Rattle.panel.proofs.RefusalLaws.{small}
+use Rattle.panel.proofs.answers.of_evaluation.Statement.{statement}
+use Rattle.panel.proofs.answers.of_evaluation.Tie as tie
 
 enum-known-evaluation : tie.Need-enum-known-evaluation
 enum-known-evaluation c = search needs
@@ -40,7 +23,7 @@ number-requires : tie.Need-number-requires
 number-requires c κs = search needs
 
 add-result : tie.Need-add-result
-add-result c = omega (arith, c .number .ensures, small (c .before .before .evaluation2 .given .0 .0))
+add-result c = omega (arith, c .number .ensures, small (c .before .before .evaluation2 .given .0 .0) .1)
 
 returns : tie.Need-returns
 returns c = search needs
@@ -53,8 +36,8 @@ returns-2 c =
       below = λ grade e. let z : _≡_ {A = ℕ} 0 1 = cc in absurd (omega arith);
     }
 
-pub answer-spec : {M : Type 1} → statement M
-answer-spec =
+pub of-evaluation-spec : {M : Type 1} → statement M
+of-evaluation-spec =
     tie.close
     (tie.spec
     enum-known-evaluation

@@ -1,0 +1,22 @@
+-- What `grades_compile` promises.
+use Prim.Native.Nat.{ℕ, _≤_, _<_}
+use mathlib.Core.Path.{_≡_}
+use mathlib.Core.List.{List}
+use lib.ListN.{length}
+use Rattle.rules.specs.Verdict.{Verdict}
+use Rattle.rules.specs.Network.{Record}
+use Rattle.compile.specs.Compiling.{compileRows, networkAfter, Kept, Demand3}
+use Rattle.panel.specs.Answers.{lentShape, lent, callNumber}
+
+module _ (bytes lower upper work network : List ℕ) where
+  abbrev verdict : Verdict (List Record)
+  verdict = lent bytes (λ shape. compileRows shape lower upper work network)
+
+  -- how many records, and every byte of the network buffer, by the rows of document 01; a refusal leaves the work buffer too, and nothing
+  -- changes its length or its bytes past sixteen for each cell; records are what demand 3 asks for
+  pub record Compiles (r : ℕ) (work′ network′ : List ℕ) : Type 0 where
+    pub answer : r ≡ callNumber verdict length
+    pub network-after : network′ ≡ networkAfter verdict network
+    pub refusal-keeps : 65536 ≤ r → work′ ≡ work
+    pub kept : Kept (lentShape bytes) work work′
+    pub demand : r < 65536 → Demand3 (lentShape bytes) lower upper r network′
