@@ -1,18 +1,25 @@
 /*
  * Grade networks, for a C program. Link with libpanel.a; of the C library it
- * needs memset alone.
+ * needs memset and memcpy alone.
  *
  * A table has conditions, each with a few values. A cell is one choice of a
- * value for every condition. A network gives a grade for each cell.
+ * value for every condition. A table gives a lower and an upper grade for each
+ * cell, a network one grade.
  *
  * In every call each buffer is a pointer and the number of bytes behind it:
  *   - the pointer is not NULL, even where the number is 0;
- *   - all the bytes may be read, and those of `work` written;
- *   - `work` shares no byte with another buffer;
+ *   - all the bytes may be read, and those of a buffer that is not const
+ *     written;
+ *   - a buffer that is not const shares no byte with another buffer;
  *   - nothing else writes to the buffers before the call returns.
- * Any contents are safe: a fault in them is answered by a refusal. A call
- * keeps nothing when it returns, so threads may call at once, each with a work
- * buffer of its own. It takes less than five kilobytes of stack.
+ * Any contents are safe: a fault in them is answered by a refusal, and a call
+ * that is refused changes no byte of any buffer. Buffers may be longer than
+ * asked for: the bytes past those that a call writes stay as they are. A call
+ * keeps nothing when it returns, so threads may call at once, each with
+ * buffers of its own to write.
+ *
+ * Stack: less than 1 KiB for grades_read, 5 KiB for grades_evaluate and
+ * grades_check, 6 KiB for grades_compile, 9 KiB for the joins.
  */
 #ifndef GRADES_H
 #define GRADES_H
@@ -24,22 +31,8 @@
 extern "C" {
 #endif
 
-/* The bytes of a shape, and of a record of a network. */
-#define GRADES_SHAPE_BYTES 10
-#define GRADES_RECORD_BYTES 16
-
 /*
- * An answer of 256 or more is a refusal: 256 plus its number. The call tests
- * for these in this order, and answers the first that applies.
- */
-#define GRADES_REFUSED 256u
-#define GRADES_REFUSED_SHAPE (GRADES_REFUSED + 4u)
-#define GRADES_REFUSED_WORK (GRADES_REFUSED + 10u)
-#define GRADES_REFUSED_NETWORK (GRADES_REFUSED + 11u)
-#define GRADES_REFUSED_CELL (GRADES_REFUSED + 12u)
-
-/*
- * The grade of a network at a cell.
+ * What the buffers hold.
  *
  * shape: ten bytes.
  *   byte 0        the number of conditions, n, 0 to 8
@@ -47,7 +40,14 @@ extern "C" {
  *                 the conditions' numbers; 0 in the places past n
  *   byte 9        the number of grades, m, 2 to 16; grades are 0 to m - 1
  * The cells are the product of the n numbers of values, 1 where n is 0, and
- * at most 1024.
+ * at most 1024. Cells are numbered from 0: with v0, v1, v2, .. a value of each
+ * condition, from 0, and k0, k1, .. how many each has, the cell's number is
+ *   v0 + k0 * v1 + k0 * k1 * v2 + ..
+ *
+ * limits, and a block: a byte for each cell, a grade. lower and upper are a
+ * table's limits; in each cell the lower grade is not above the upper.
+ *
+ * A set of conditions is one byte, bit i for condition i.
  *
  * network: 1 to 4096 records of sixteen bytes, numbered from 0. Byte 0 is the
  * kind. Bytes that a kind does not name are 0.
@@ -58,15 +58,169 @@ extern "C" {
  *   2  min       bytes 4 and 5, 6 and 7: the numbers of two earlier records,
  *                low byte first; the lesser of their grades
  *   3  max       the same; the greater of their grades
- * The last record's grade is the answer.
+ * The last record's grade is the network's.
  *
- * work: a byte for each record, or more; any contents. On a grade the bytes
- * for the records hold anything afterwards, and those past them are as
- * before. A refusal changes no byte.
+ * file: at most 1033 records of sixteen bytes. Byte 0 is the kind. Bytes that
+ * a kind does not name are 0.
+ *   1  condition  byte 1: its number; byte 2: how many values it has
+ *   2  grades     byte 1: m
+ *   3  cell       byte 1: lower grade; byte 2: upper grade
+ *                 bytes 8 to 15: the values of conditions 0 to 7
+ * First the conditions, in the order of their numbers; then the grades, once;
+ * then cells, each with a greater number than the one before. A cell that is
+ * not listed has the limits 0 and m - 1.
+ */
+#define GRADES_SHAPE_BYTES 10
+#define GRADES_RECORD_BYTES 16
+
+/*
+ * An answer of GRADES_CALL_REFUSED or more is a refusal: 65536 plus its
+ * number. Each call names the refusals that it has, in the order in which it
+ * tests for them, and answers the first that applies. grades_evaluate has
+ * answers of its own, below.
+ */
+#define GRADES_CALL_REFUSED 65536u
+/* No record, a length that is no multiple of 16, more than 1033 records. */
+#define GRADES_CALL_REFUSED_FILE_LENGTH (GRADES_CALL_REFUSED + 1u)
+/* A record of a file: an unknown kind, or a byte set that must be 0. */
+#define GRADES_CALL_REFUSED_RECORD_BYTES (GRADES_CALL_REFUSED + 2u)
+/* A record out of the order above, or no grades record in the file. */
+#define GRADES_CALL_REFUSED_RECORD_ORDER (GRADES_CALL_REFUSED + 3u)
+/* A shape, or the record that would make it, outside the limits above; a
+ * shape lent in more or fewer than ten bytes. */
+#define GRADES_CALL_REFUSED_SHAPE (GRADES_CALL_REFUSED + 4u)
+/* A lower grade above the upper, or an upper grade that is not below m. */
+#define GRADES_CALL_REFUSED_LIMITS (GRADES_CALL_REFUSED + 5u)
+/* A record of a cell: a value that its condition does not have, or a cell
+ * that is not after the one before. */
+#define GRADES_CALL_REFUSED_CELL_VALUES (GRADES_CALL_REFUSED + 6u)
+/* A set that is empty, that overlaps the other, or that has a condition which
+ * the shape does not have. */
+#define GRADES_CALL_REFUSED_SETS (GRADES_CALL_REFUSED + 7u)
+/* The join does not exist. */
+#define GRADES_CALL_REFUSED_NO_JOIN (GRADES_CALL_REFUSED + 8u)
+/* A first block outside its limits, or one that depends on a condition of t. */
+#define GRADES_CALL_REFUSED_FIRST_BLOCK (GRADES_CALL_REFUSED + 9u)
+/* A buffer that is too short. */
+#define GRADES_CALL_REFUSED_BUFFER (GRADES_CALL_REFUSED + 10u)
+/* No record, more than 4096, a length that is no multiple of 16, or a record
+ * that is not as above: an unknown kind, a byte set that must be 0, a grade
+ * not below m, a condition that the shape does not have, or the number of a
+ * record that does not come before. */
+#define GRADES_CALL_REFUSED_NETWORK (GRADES_CALL_REFUSED + 11u)
+
+/*
+ * Reads a table file: writes the shape's ten bytes and the limits of all
+ * cells. Buffers of 10, 1024 and 1024 bytes are enough for every file.
  *
- * cell: the number of a cell. With v0, v1, v2, .. a value of each condition,
- * from 0, and k0, k1, .. how many each has, it is
- *   v0 + k0 * v1 + k0 * k1 * v2 + ..
+ * Answers 0. Refusals: FILE_LENGTH; then record by record RECORD_BYTES,
+ * RECORD_ORDER, and SHAPE for a condition or the grades, CELL_VALUES and
+ * LIMITS for a cell; RECORD_ORDER if the grades are missing; last BUFFER, for
+ * fewer than 10 bytes of shape, or fewer bytes of limits than cells.
+ */
+uint32_t grades_read(const uint8_t *file, size_t file_bytes,
+                     uint8_t *shape, size_t shape_bytes,
+                     uint8_t *lower, size_t lower_bytes,
+                     uint8_t *upper, size_t upper_bytes);
+
+/*
+ * Joins. Two functions give a grade for each cell, the first not depending on
+ * the conditions in t, the second not on those in s. Joined by max, that is
+ * the greater of their grades in each cell, or by min, the lesser, they may
+ * keep within the limits of a table.
+ *
+ * These calls write limits of all cells to out_lower and out_upper. Those of
+ * the first block hold exactly the functions that can be the first of two.
+ * Those of the second hold exactly the functions that can be the second, when
+ * the first is the block g.
+ *
+ * Answers 0. Refusals: SHAPE; BUFFER, for any buffer but the shape's with
+ * fewer bytes than there are cells; LIMITS; SETS; NO_JOIN, exactly when there
+ * are no two such functions; FIRST_BLOCK, for g.
+ */
+uint32_t grades_join_max_first(const uint8_t *shape, size_t shape_bytes,
+                               const uint8_t *lower, size_t lower_bytes,
+                               const uint8_t *upper, size_t upper_bytes,
+                               uint8_t s, uint8_t t,
+                               uint8_t *out_lower, size_t out_lower_bytes,
+                               uint8_t *out_upper, size_t out_upper_bytes);
+
+uint32_t grades_join_min_first(const uint8_t *shape, size_t shape_bytes,
+                               const uint8_t *lower, size_t lower_bytes,
+                               const uint8_t *upper, size_t upper_bytes,
+                               uint8_t s, uint8_t t,
+                               uint8_t *out_lower, size_t out_lower_bytes,
+                               uint8_t *out_upper, size_t out_upper_bytes);
+
+uint32_t grades_join_max_second(const uint8_t *shape, size_t shape_bytes,
+                                const uint8_t *lower, size_t lower_bytes,
+                                const uint8_t *upper, size_t upper_bytes,
+                                uint8_t s, uint8_t t,
+                                const uint8_t *g, size_t g_bytes,
+                                uint8_t *out_lower, size_t out_lower_bytes,
+                                uint8_t *out_upper, size_t out_upper_bytes);
+
+uint32_t grades_join_min_second(const uint8_t *shape, size_t shape_bytes,
+                                const uint8_t *lower, size_t lower_bytes,
+                                const uint8_t *upper, size_t upper_bytes,
+                                uint8_t s, uint8_t t,
+                                const uint8_t *g, size_t g_bytes,
+                                uint8_t *out_lower, size_t out_lower_bytes,
+                                uint8_t *out_upper, size_t out_upper_bytes);
+
+/*
+ * Compiles a table: writes the records of a network whose grade is within the
+ * limits in every cell.
+ *
+ * work: sixteen bytes for each cell; any contents. They hold anything after
+ * records were written.
+ * network: sixteen bytes for each of 3 * cells - 5 records, or for one record
+ * where there is one cell. 16384 and 49072 bytes are enough for every table.
+ *
+ * Answers the number of records, 1 to 3067. Refusals: SHAPE; BUFFER, for
+ * limits, work or network; LIMITS.
+ */
+uint32_t grades_compile(const uint8_t *shape, size_t shape_bytes,
+                        const uint8_t *lower, size_t lower_bytes,
+                        const uint8_t *upper, size_t upper_bytes,
+                        uint8_t *work, size_t work_bytes,
+                        uint8_t *network, size_t network_bytes);
+
+/*
+ * Checks a network, whoever made it, against a table's limits.
+ *
+ * work: a byte for each record; any contents. They hold anything after a call
+ * that was not refused.
+ *
+ * Answers 0 if in every cell the network's grade is within the limits; else,
+ * of the first cell where it is not,
+ *   1 + 16 * cell + grade
+ * so that the cell is (answer - 1) / 16 and the grade (answer - 1) % 16.
+ * Refusals: SHAPE; BUFFER, for limits, or for work_bytes less than
+ * network_bytes / 16, rounded down; LIMITS; NETWORK.
+ */
+uint32_t grades_check(const uint8_t *network, size_t network_bytes,
+                      const uint8_t *shape, size_t shape_bytes,
+                      const uint8_t *lower, size_t lower_bytes,
+                      const uint8_t *upper, size_t upper_bytes,
+                      uint8_t *work, size_t work_bytes);
+
+/*
+ * An answer of grades_evaluate that is 256 or more is a refusal: 256 plus its
+ * number. The call tests for these in this order.
+ */
+#define GRADES_REFUSED 256u
+#define GRADES_REFUSED_SHAPE (GRADES_REFUSED + 4u)
+#define GRADES_REFUSED_WORK (GRADES_REFUSED + 10u)
+#define GRADES_REFUSED_NETWORK (GRADES_REFUSED + 11u)
+#define GRADES_REFUSED_CELL (GRADES_REFUSED + 12u)
+
+/*
+ * The grade of a network at a cell.
+ *
+ * work: a byte for each record; any contents. They hold anything after a
+ * grade.
+ * cell: the number of a cell.
  *
  * Answers:
  *   0 to 15  the grade
@@ -74,11 +228,7 @@ extern "C" {
  *            shape or the number of cells is outside the limits above
  *   266      GRADES_REFUSED_WORK: work_bytes is less than network_bytes / 16,
  *            rounded down
- *   267      GRADES_REFUSED_NETWORK: no record, more than 4096, network_bytes
- *            not a multiple of 16, or a record that is not as above: an
- *            unknown kind, a byte set that must be 0, a grade not below m, a
- *            condition that the shape does not have, or the number of a
- *            record that does not come before
+ *   267      GRADES_REFUSED_NETWORK: as GRADES_CALL_REFUSED_NETWORK
  *   268      GRADES_REFUSED_CELL: cell is not below the number of cells
  */
 uint32_t grades_evaluate(const uint8_t *network, size_t network_bytes,

@@ -2,38 +2,16 @@
  * Calls grades_evaluate on a sound network at all its cells, and once or more
  * for each refusal. Each call is held to its answer, and to what it may change.
  */
-#include "grades.h"
+#include "check.h"
 
-#include <stdio.h>
-#include <string.h>
-
-#define RECORD GRADES_RECORD_BYTES
 #define MOST_RECORDS 4096
 #define GUARD 64
-#define FILL 99
-
-static unsigned checks;
-static unsigned failures;
 
 /* One record more than a network may have. */
 static uint8_t network[(MOST_RECORDS + 1) * RECORD];
 
 /* The work buffer, between two guards. */
 static uint8_t around[GUARD + MOST_RECORDS + 1 + GUARD];
-
-/* Parity of two conditions of two values: seven records. */
-static const uint8_t parity[7][RECORD] = {
-    {1, 0, 0, 0, 0, 0, 0, 0, 1, 0},
-    {1, 1, 0, 0, 0, 0, 0, 0, 0, 1},
-    {2, 0, 0, 0, 0, 0, 1, 0},
-    {1, 0, 0, 0, 0, 0, 0, 0, 0, 1},
-    {1, 1, 0, 0, 0, 0, 0, 0, 1, 0},
-    {2, 0, 0, 0, 3, 0, 4, 0},
-    {3, 0, 0, 0, 2, 0, 5, 0},
-};
-static const size_t parity_bytes = sizeof parity;
-
-static const uint8_t square[GRADES_SHAPE_BYTES] = {2, 2, 2, 0, 0, 0, 0, 0, 0, 2};
 
 /* By kind, the bytes that must be zero. */
 static const char must_be_zero[4][RECORD + 1] = {
@@ -43,42 +21,21 @@ static const char must_be_zero[4][RECORD + 1] = {
     ".000....00000000",
 };
 
-static void check(int holds, const char *name, const char *what)
-{
-    checks++;
-    if (!holds) {
-        failures++;
-        printf("c: %s: %s\n", name, what);
-    }
-}
-
-static int all_filled(size_t from, size_t to)
-{
-    while (from < to)
-        if (around[from++] != FILL)
-            return 0;
-    return 1;
-}
-
 static void expect(const char *name, size_t network_bytes, const uint8_t *shape,
                    size_t shape_bytes, size_t work_bytes, uint32_t cell, uint32_t wanted)
 {
     size_t records = network_bytes / RECORD;
     size_t written = wanted < GRADES_REFUSED ? records : 0;
+    uint8_t *work = around + GUARD;
     uint32_t answer;
 
     memset(around, FILL, sizeof around);
-    answer = grades_evaluate(network, network_bytes, shape, shape_bytes, around + GUARD,
-                             work_bytes, cell);
-    checks++;
-    if (answer != wanted) {
-        failures++;
-        printf("c: %s: %u, not %u\n", name, (unsigned)answer, (unsigned)wanted);
-    }
-    check(all_filled(0, GUARD), name, "bytes before the work buffer changed");
-    check(all_filled(GUARD + work_bytes, sizeof around), name,
+    answer = grades_evaluate(network, network_bytes, shape, shape_bytes, work, work_bytes, cell);
+    check_answer(name, answer, wanted);
+    check(all_filled(around, work), name, "bytes before the work buffer changed");
+    check(all_filled(work + work_bytes, around + sizeof around), name,
           "bytes after the work buffer changed");
-    check(all_filled(GUARD + written, GUARD + work_bytes), name,
+    check(all_filled(work + written, work + work_bytes), name,
           "bytes of the work buffer changed that must stay");
 }
 
@@ -262,10 +219,5 @@ int main(void)
     records();
     cells();
     order();
-    if (failures != 0) {
-        printf("c: %u of %u checks failed\n", failures, checks);
-        return 1;
-    }
-    printf("c: %u checks\n", checks);
-    return 0;
+    return checked("evaluate");
 }

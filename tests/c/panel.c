@@ -1,0 +1,245 @@
+/*
+ * The whole library, on tables of four cells: reads, compiles, checks and
+ * evaluates table E of document 01, joins where it can be done, and asks each
+ * call for its refusals. Each call is held to its answer, and to every byte of
+ * the buffers that it may write.
+ */
+#include "check.h"
+
+#define CELLS 4
+
+/* Of E; of the greater and of the lesser of two conditions; limits that no table has. */
+static const uint8_t odd[CELLS] = {0, 1, 1, 0};
+static const uint8_t either[CELLS] = {0, 1, 1, 1};
+static const uint8_t both[CELLS] = {0, 0, 0, 1};
+static const uint8_t not_grades[CELLS] = {0, 0, 0, 2};
+
+/* The grades of one condition. */
+static const uint8_t of_first[CELLS] = {0, 1, 0, 1};
+static const uint8_t of_second[CELLS] = {0, 0, 1, 1};
+
+static const uint8_t file_of_e[7][RECORD] = {
+    {1, 0, 2},
+    {1, 1, 2},
+    {2, 2},
+    {3, 0, 0, 0, 0, 0, 0, 0, 0, 0},
+    {3, 1, 1, 0, 0, 0, 0, 0, 1, 0},
+    {3, 1, 1, 0, 0, 0, 0, 0, 0, 1},
+    {3, 0, 0, 0, 0, 0, 0, 0, 1, 1},
+};
+
+/* Buffers to write: each is longer than a call asks for. */
+static uint8_t shape[16], lower[16], upper[16], work[128], network[256];
+
+static void fill_buffers(void)
+{
+    memset(shape, FILL, sizeof shape);
+    memset(lower, FILL, sizeof lower);
+    memset(upper, FILL, sizeof upper);
+    memset(work, FILL, sizeof work);
+    memset(network, FILL, sizeof network);
+}
+
+/* The bytes wanted stand at the front of a buffer, and nothing behind them has changed. */
+static void check_front(const char *name, const uint8_t *buffer, size_t size, const void *wanted,
+                        size_t bytes)
+{
+    check(memcmp(buffer, wanted, bytes) == 0, name, "other bytes written than wanted");
+    check(all_filled(buffer + bytes, buffer + size), name, "bytes changed that must stay");
+}
+
+static void check_refused(const char *name, uint32_t answer, uint32_t wanted)
+{
+    check_answer(name, answer, wanted);
+    check_front(name, shape, sizeof shape, "", 0);
+    check_front(name, lower, sizeof lower, "", 0);
+    check_front(name, upper, sizeof upper, "", 0);
+    check_front(name, work, sizeof work, "", 0);
+    check_front(name, network, sizeof network, "", 0);
+}
+
+/* Reading. */
+
+static uint32_t read_file(const void *file, size_t file_bytes, size_t shape_bytes,
+                          size_t lower_bytes, size_t upper_bytes)
+{
+    fill_buffers();
+    return grades_read(file, file_bytes, shape, shape_bytes, lower, lower_bytes, upper,
+                       upper_bytes);
+}
+
+/* The file of E with another byte in a record. */
+static void expect_damaged(const char *name, size_t record, size_t byte, uint8_t value,
+                           uint32_t wanted)
+{
+    uint8_t file[7][RECORD];
+
+    memcpy(file, file_of_e, sizeof file);
+    file[record][byte] = value;
+    check_refused(name, read_file(file, sizeof file, 10, CELLS, CELLS), wanted);
+    check_refused(name, read_file(file, sizeof file, 0, 0, 0), wanted);
+}
+
+static void reading(void)
+{
+    const char *name = "reading";
+    size_t all = sizeof file_of_e;
+
+    check_answer(name, read_file(file_of_e, all, 10, CELLS, CELLS), 0);
+    check_front(name, shape, sizeof shape, square, sizeof square);
+    check_front(name, lower, sizeof lower, odd, CELLS);
+    check_front(name, upper, sizeof upper, odd, CELLS);
+
+    check_refused("a file one byte short", read_file(file_of_e, all - 1, 10, CELLS, CELLS),
+                  GRADES_CALL_REFUSED_FILE_LENGTH);
+    check_refused("no file, no buffers", read_file(file_of_e, 0, 0, 0, 0),
+                  GRADES_CALL_REFUSED_FILE_LENGTH);
+    expect_damaged("a record of kind 4", 3, 0, 4, GRADES_CALL_REFUSED_RECORD_BYTES);
+    check_refused("conditions alone", read_file(file_of_e, 2 * RECORD, 10, CELLS, CELLS),
+                  GRADES_CALL_REFUSED_RECORD_ORDER);
+    expect_damaged("a condition of nine values", 1, 2, 9, GRADES_CALL_REFUSED_SHAPE);
+    expect_damaged("an upper grade that is none", 6, 2, 2, GRADES_CALL_REFUSED_LIMITS);
+    expect_damaged("a value that is none", 6, 9, 2, GRADES_CALL_REFUSED_CELL_VALUES);
+    check_refused("nine bytes for the shape", read_file(file_of_e, all, 9, CELLS, CELLS),
+                  GRADES_CALL_REFUSED_BUFFER);
+    check_refused("three bytes for lower", read_file(file_of_e, all, 10, CELLS - 1, CELLS),
+                  GRADES_CALL_REFUSED_BUFFER);
+    check_refused("three bytes for upper", read_file(file_of_e, all, 10, CELLS, CELLS - 1),
+                  GRADES_CALL_REFUSED_BUFFER);
+}
+
+/* Joins: both calls of a gate, the first where g is NULL. */
+
+struct join {
+    const char *name;
+    uint32_t (*first)(const uint8_t *, size_t, const uint8_t *, size_t, const uint8_t *, size_t,
+                      uint8_t, uint8_t, uint8_t *, size_t, uint8_t *, size_t);
+    uint32_t (*second)(const uint8_t *, size_t, const uint8_t *, size_t, const uint8_t *, size_t,
+                       uint8_t, uint8_t, const uint8_t *, size_t, uint8_t *, size_t, uint8_t *,
+                       size_t);
+    /* A table that it joins at {0} and {1}. */
+    const uint8_t *table;
+};
+
+static const struct join joins[2] = {
+    {"max", grades_join_max_first, grades_join_max_second, either},
+    {"min", grades_join_min_first, grades_join_min_second, both},
+};
+
+static uint32_t join(const struct join *gate, size_t shape_bytes, const uint8_t *low,
+                     const uint8_t *high, uint8_t s, uint8_t t, const uint8_t *g, size_t out_bytes)
+{
+    fill_buffers();
+    if (g == NULL)
+        return gate->first(square, shape_bytes, low, CELLS, high, CELLS, s, t, lower, out_bytes,
+                           upper, CELLS);
+    return gate->second(square, shape_bytes, low, CELLS, high, CELLS, s, t, g, CELLS, lower,
+                        out_bytes, upper, CELLS);
+}
+
+static void check_join(const struct join *gate, const uint8_t *g, const uint8_t *wanted)
+{
+    check_answer(gate->name, join(gate, 10, gate->table, gate->table, 1, 2, g, CELLS), 0);
+    check_front(gate->name, lower, sizeof lower, wanted, CELLS);
+    check_front(gate->name, upper, sizeof upper, wanted, CELLS);
+}
+
+static void joining(const struct join *gate)
+{
+    const uint8_t *table = gate->table;
+    const uint8_t *blocks[2] = {NULL, of_first};
+    size_t i;
+
+    check_join(gate, NULL, of_first);
+    check_join(gate, of_first, of_second);
+    for (i = 0; i < 2; i++) {
+        const uint8_t *g = blocks[i];
+        check_refused(gate->name, join(gate, 9, table, table, 1, 2, g, CELLS),
+                      GRADES_CALL_REFUSED_SHAPE);
+        check_refused(gate->name, join(gate, 10, table, table, 1, 2, g, CELLS - 1),
+                      GRADES_CALL_REFUSED_BUFFER);
+        check_refused(gate->name, join(gate, 10, table, not_grades, 1, 2, g, CELLS),
+                      GRADES_CALL_REFUSED_LIMITS);
+        check_refused(gate->name, join(gate, 10, table, table, 1, 0, g, CELLS),
+                      GRADES_CALL_REFUSED_SETS);
+        check_refused(gate->name, join(gate, 10, table, table, 3, 2, g, CELLS),
+                      GRADES_CALL_REFUSED_SETS);
+        check_refused(gate->name, join(gate, 10, table, table, 1, 4, g, CELLS),
+                      GRADES_CALL_REFUSED_SETS);
+        check_refused(gate->name, join(gate, 10, odd, odd, 1, 2, g, CELLS),
+                      GRADES_CALL_REFUSED_NO_JOIN);
+    }
+    check_refused(gate->name, join(gate, 10, table, table, 1, 2, of_second, CELLS),
+                  GRADES_CALL_REFUSED_FIRST_BLOCK);
+}
+
+/* Compiling, and what the network then is. */
+
+static uint32_t compile(size_t shape_bytes, const uint8_t *low, const uint8_t *high,
+                        size_t work_bytes, size_t network_bytes)
+{
+    fill_buffers();
+    return grades_compile(square, shape_bytes, low, CELLS, high, CELLS, work, work_bytes, network,
+                          network_bytes);
+}
+
+static void compiling(void)
+{
+    const char *name = "compiling";
+    uint32_t cell;
+
+    check_refused("nine bytes of shape", compile(9, odd, odd, 64, 112), GRADES_CALL_REFUSED_SHAPE);
+    check_refused("a work byte too few", compile(10, odd, odd, 63, 112),
+                  GRADES_CALL_REFUSED_BUFFER);
+    check_refused("a network byte too few", compile(10, odd, odd, 64, 111),
+                  GRADES_CALL_REFUSED_BUFFER);
+    check_refused("limits in disorder", compile(10, either, odd, 64, 112),
+                  GRADES_CALL_REFUSED_LIMITS);
+
+    check_answer(name, compile(10, odd, odd, 64, 112), 7);
+    check_front(name, network, sizeof network, parity, parity_bytes);
+    check(all_filled(work + 64, work + sizeof work), name, "work bytes changed that must stay");
+    for (cell = 0; cell < CELLS; cell++)
+        check_answer("a compiled grade",
+                     grades_evaluate(network, parity_bytes, square, 10, work, 7, cell), odd[cell]);
+}
+
+/* Checking E's network. */
+
+static uint32_t check_table(size_t network_bytes, size_t shape_bytes, const uint8_t *limits,
+                            size_t limit_bytes, size_t work_bytes)
+{
+    fill_buffers();
+    return grades_check(parity[0], network_bytes, square, shape_bytes, limits, limit_bytes, limits,
+                        limit_bytes, work, work_bytes);
+}
+
+static void checking(void)
+{
+    check_answer("within", check_table(parity_bytes, 10, odd, CELLS, 7), 0);
+    check(all_filled(work + 7, work + sizeof work), "within", "work bytes changed that must stay");
+    check_answer("outside at cell 3", check_table(parity_bytes, 10, either, CELLS, 7),
+                 1 + 16 * 3 + 0);
+    check_answer("outside at cell 1", check_table(parity_bytes, 10, both, CELLS, 7),
+                 1 + 16 * 1 + 1);
+
+    check_refused("nine bytes of shape", check_table(parity_bytes, 9, odd, CELLS, 7),
+                  GRADES_CALL_REFUSED_SHAPE);
+    check_refused("three limits", check_table(parity_bytes, 10, odd, CELLS - 1, 7),
+                  GRADES_CALL_REFUSED_BUFFER);
+    check_refused("a work byte too few", check_table(parity_bytes, 10, odd, CELLS, 6),
+                  GRADES_CALL_REFUSED_BUFFER);
+    check_refused("a limit that is no grade", check_table(parity_bytes, 10, not_grades, CELLS, 7),
+                  GRADES_CALL_REFUSED_LIMITS);
+    check_refused("no record", check_table(0, 10, odd, CELLS, 7), GRADES_CALL_REFUSED_NETWORK);
+}
+
+int main(void)
+{
+    reading();
+    joining(&joins[0]);
+    joining(&joins[1]);
+    compiling();
+    checking();
+    return checked("panel");
+}
