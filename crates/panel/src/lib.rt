@@ -12,9 +12,9 @@ use shape::Shape;
 use shape::ShapeAnswer;
 use table_file::TableAnswer;
 
-pub mod answers;
-pub mod joins;
-pub mod reading;
+mod answers;
+mod joins;
+mod reading;
 
 // The grade of a network at a cell. The work buffer has a byte for each record.
 #[no_mangle]

@@ -13,23 +13,25 @@ enum-told c = search needs
 enum-known-answer : tie.Need-enum-known-answer
 enum-known-answer c = search needs
 
+few : (c : tie.After-known-told) → c .before .answer .given .0 .0 < 1024
+few c = let g = c .before .answer .given in c .before .before .before .pre (g .0 .0) (g .0 .1 .0) (g .1)
+
 cast-result : tie.Need-cast-result
-cast-result c = let g = c .before .answer .given in omega (arith, c .before .before .before .pre (g .0 .0) (g .0 .1 .0) (g .1))
+cast-result c = omega (arith, few c)
 
 mul-result : tie.Need-mul-result
-mul-result c = let g = c .before .answer .given in omega (arith, c .before .before .before .pre (g .0 .0) (g .0 .1 .0) (g .1))
+mul-result c = omega (arith, few c)
 
 add-result : tie.Need-add-result
-add-result c = let g = c .before .answer .given in omega (arith, c .before .before .before .pre (g .0 .0) (g .0 .1 .0) (g .1))
+add-result c = omega (arith, few c)
 
 cast-result-2 : tie.Need-cast-result-2
 cast-result-2 c = search needs
 
 add-result-2 : tie.Need-add-result-2
 add-result-2 c =
-    let g = c .before .answer .given in
-    let low : g .0 .1 .0 < 256 = search needs in
-    omega (arith, c .before .before .before .pre (g .0 .0) (g .0 .1 .0) (g .1))
+    let low : c .before .answer .given .0 .1 .0 < 256 = search needs in
+    omega (arith, few c)
 
 enum-known-answer-2 : tie.Need-enum-known-answer-2
 enum-known-answer-2 c = search needs
