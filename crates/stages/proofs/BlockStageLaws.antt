@@ -1,6 +1,6 @@
 -- 01, Stages, step 5: a join's two stages, one behind the other.
 use Prim.Native.Nat.{ℕ, _+_, _-_, _*_, _≤_, _<_}
-use mathlib.Core.Path.{_≡_, sym, _∙_, ap, ap₂, subst}
+use mathlib.Core.Path.{_≡_, refl, sym, _∙_, ap, ap₂, subst}
 use mathlib.Core.List.{List, [], _∷_, _++_}
 use native.Mathlib.Nat.{le-trans}
 use native.Mathlib.Omega.{arith}
@@ -15,7 +15,6 @@ use Rattle.rules.specs.Network.{gate, combine}
 use Rattle.rules.specs.Tree.{Tree, gated, size, records}
 use Rattle.rules.specs.Stage.{Stage, firstStage, secondStage, computed, joinTree, treeOf}
 use Rattle.rules.specs.Demands.{Admits}
-use Rattle.laws.proofs.CellLaws.{without-lt, without-half}
 use Rattle.laws.proofs.GateLaws.{Good, exchangeFor-good}
 use Rattle.laws.proofs.JoinLaws.{uA-under, uB-under}
 use Rattle.laws.proofs.TreeLaws.{computed-at, made-below, size-pos, length-records}
@@ -32,8 +31,8 @@ use Rattle.stage_steps.specs.Putting.{Put}
 use Rattle.stage_steps.specs.Ends.{CloseRoom, Closed}
 use Rattle.stage_steps.proofs.PutLaws.{put-then, put-as}
 use Rattle.stages.specs.Staging.{Starts, Written, Joins}
-use Rattle.stages.proofs.LentLaws.{rest, rest-length, rest-stage, Back, back, back-front, back-behind}
-use Rattle.stages.proofs.ChildLaws.{proper-ready, few-without, starts-as, written-as}
+use Rattle.stages.proofs.LentLaws.{rest, Back, back-front}
+use Rattle.stages.proofs.ChildLaws.{proper-ready, written-as, Smaller, smaller, Lent, behind, falls, child-stage, child-starts, child-back, child-function}
 
 part-below : {w : List ℕ} {a n m : ℕ} (t : List ℕ) → part w a n ≡ t → ((c : ℕ) → c < n → at t c ≤ m - 1) → Below w a n m
 part-below {w} {a} {n} {m} t e h =
@@ -67,12 +66,14 @@ module _ {gate : Gate} {m : ℕ} {ks : List ℕ} {l : Limits} {s t c : ℕ} {w n
   abbrev B : Stage
   B = secondStage m gate s t y g
 
-  -- each has half of the cells at most
-  half-first : 2 * cells (without t ks) ≤ cells ks
-  half-first = let a = admits .sets .some-t in without-half t ks (a .0) (ready .pos) (admits .sets .in-t (a .0) (a .1)) (a .1)
+  without-t : Smaller ks t
+  without-t = smaller ks t (ready .pos) (admits .sets .some-t) (admits .sets .in-t)
 
-  half-second : 2 * cells (without s ks) ≤ cells ks
-  half-second = let a = admits .sets .some-s in without-half s ks (a .0) (ready .pos) (admits .sets .in-s (a .0) (a .1)) (a .1)
+  without-s : Smaller ks s
+  without-s = smaller ks s (ready .pos) (admits .sets .some-s) (admits .sets .in-s)
+
+  lent : {d : ℕ} (a v : List ℕ) → Smaller ks d → a ≡ without d ks → length v ≡ length w → Lent m y c w d a v
+  lent a v h e n = record { left = j .left; small = h; places = e; len = n }
 
   good : Good ks m (exchangeFor gate ks m l)
   good = exchangeFor-good ks m gate l (ready .good)
@@ -82,9 +83,7 @@ module _ {gate : Gate} {m : ℕ} {ks : List ℕ} {l : Limits} {s t c : ℕ} {w n
 
   pub first-room : FirstRoom w ks m t c
   first-room =
-      let h = half-first in
-      let o = j .left .own .own in
-      let q = j .left .work in
+      let h = behind (lent (without t ks) w without-t refl refl) in
       record {
         own = j .left .own;
         space = omega arith;
@@ -96,37 +95,25 @@ module _ {gate : Gate} {m : ℕ} {ks : List ℕ} {l : Limits} {s t c : ℕ} {w n
 
   -- the first block's stage
   module _ {a w₁ : List ℕ} (f : FirstLaid gate m ks t c w a w₁) where
+    first-lent : Lent m y c w t a w₁
+    first-lent = lent a w₁ without-t (f .places) (f .len)
+
     first-stage : stageAt a (rest (8 * c) w₁) 0 (cells a) ≡ A
-    first-stage =
-        let h = half-first in
-        let o = j .left .own .own in
-        let q = j .left .work in
-        let e = ap cells (f .places) in
-        let n = f .len in
-        rest-stage (8 * c) a w₁ (omega arith) ∙ f .stage s l (j .tables)
+    first-stage = child-stage first-lent (f .stage s l (j .tables))
 
     pub first-starts : Starts m a (rest (8 * c) w₁) net r
     first-starts =
-        let h = half-first in
-        let o = j .left .own .own in
-        let q = j .left .work in
-        let n = f .len in
-        let k = rest-length (8 * c) w₁ in
         let i = j .fits .numbers in
         let u = j .fits .room in
-        starts-as m A first-stage (fewer-shaped t (j .left .own .shaped)) (few-without t ks (j .left .few)) (omega arith)
-        (first-ready m gate s t y ready admits) (record { numbers = omega arith; room = omega arith })
+        child-starts first-lent (A .limits) first-stage (first-ready m gate s t y ready admits)
+        (record { numbers = omega arith; room = omega arith })
 
     pub first-fewer : 2 * width a + 1 < 2 * width ks
-    first-fewer =
-        let b = admits .sets .some-t in
-        let e = ap width (f .places) in
-        let h = without-lt t ks (b .0) (admits .sets .in-t (b .0) (b .1)) (b .1) in
-        omega arith
+    first-fewer = falls first-lent
 
     pub first-back : {v net₁ : List ℕ} {e₁ : ℕ} → Written a (treeOf m (stageAt a (rest (8 * c) w₁) 0 (cells a))) (rest (8 * c) w₁) net r e₁ v net₁
         → Back (8 * c) w₁ v (putMid (8 * c) (length w₁ - 8 * c) w₁ v)
-    first-back x = let q = j .left .work in let n = f .len in back (8 * c) w₁ _ (omega arith) (x .len)
+    first-back x = child-back first-lent (x .len)
 
     -- once it is done
     module _ {v net₁ w₂ : List ℕ} {e₁ : ℕ} (x : Written a (treeOf m (stageAt a (rest (8 * c) w₁) 0 (cells a))) (rest (8 * c) w₁) net r e₁ v net₁) (k : Back (8 * c) w₁ v w₂) where
@@ -146,14 +133,7 @@ module _ {gate : Gate} {m : ℕ} {ks : List ℕ} {l : Limits} {s t c : ℕ} {w n
           record { lows = kept-part 0 (omega arith) ∙ u .lows; seconds = kept-part (5 * c) (omega arith) ∙ u .seconds }
 
       block-here : part w₂ (8 * c) (cells a) ≡ computed (A .ks) (treeOf m A)
-      block-here =
-          let h = half-first in
-          let o = j .left .own .own in
-          let q = j .left .work in
-          let n = f .len in
-          let e = ap cells (f .places) in
-          let b = k .long in
-          back-behind (cells a) k (omega arith) (omega arith) ∙ ap (part v 0) e ∙ first-done .function
+      block-here = child-function first-lent k (first-done .function)
 
       given : moved a ks (part w₂ (8 * c) (cells a)) ≡ g
       given = ap₂ (λ (p q : List ℕ). moved p ks q) (f .places) block-here ∙ sym (first-moved m y ready gate s t admits)
@@ -167,12 +147,9 @@ module _ {gate : Gate} {m : ℕ} {ks : List ℕ} {l : Limits} {s t c : ℕ} {w n
 
       pub second-room : SecondRoom w₂ ks a m s c
       second-room =
-          let h = half-first in
-          let h′ = half-second in
+          let h = behind (lent a w₂ without-t (f .places) same-length) in
+          let h′ = behind (lent (without s ks) w₂ without-s refl same-length) in
           let o = j .left .own .own in
-          let q = j .left .work in
-          let e = ap cells (f .places) in
-          let n = same-length in
           record {
             own = record { shaped = j .left .own .shaped; own = o; room = omega arith };
             shaped = as-shaped (f .places) (fewer-shaped t (j .left .own .shaped));
@@ -191,42 +168,29 @@ module _ {gate : Gate} {m : ℕ} {ks : List ℕ} {l : Limits} {s t c : ℕ} {w n
         whole-length : length w₃ ≡ length w
         whole-length = z .len ∙ same-length
 
+        second-lent : Lent m y c w s b w₃
+        second-lent = lent b w₃ without-s (z .places) whole-length
+
         second-stage : stageAt b (rest (8 * c) w₃) 0 (cells b) ≡ B
-        second-stage =
-            let h = half-second in
-            let o = j .left .own .own in
-            let q = j .left .work in
-            let e = ap cells (z .places) in
-            let n = whole-length in
-            rest-stage (8 * c) b w₃ (omega arith) ∙ z .stage t l second-tables ∙ ap (secondStage m gate s t y) given
+        second-stage = child-stage second-lent (z .stage t l second-tables ∙ ap (secondStage m gate s t y) given)
 
         second-ready-here : Ready m B
         second-ready-here = second-ready m gate s t y ready admits g (first-inside m (treeOf m) (width ks) (λ z h q. network-ok m z q) y (omega arith) ready gate s t admits)
 
         pub second-starts : Starts m b (rest (8 * c) w₃) net₁ e₁
         second-starts =
-            let h = half-second in
-            let o = j .left .own .own in
-            let q = j .left .work in
-            let n = whole-length in
-            let k = rest-length (8 * c) w₃ in
             let i = j .fits .numbers in
             let u = j .fits .room in
             let p = first-done .count in
             let d = first-done .put .bytes .len in
-            starts-as m B second-stage (fewer-shaped s (j .left .own .shaped)) (few-without s ks (j .left .few)) (omega arith) second-ready-here
-            (record { numbers = omega arith; room = omega arith })
+            child-starts second-lent (B .limits) second-stage second-ready-here (record { numbers = omega arith; room = omega arith })
 
         pub second-fewer : 2 * width b + 1 < 2 * width ks
-        second-fewer =
-            let p = admits .sets .some-s in
-            let e = ap width (z .places) in
-            let h = without-lt s ks (p .0) (admits .sets .in-s (p .0) (p .1)) (p .1) in
-            omega arith
+        second-fewer = falls second-lent
 
         pub second-back : {v′ net₂ : List ℕ} {e₂ : ℕ} → Written b (treeOf m (stageAt b (rest (8 * c) w₃) 0 (cells b))) (rest (8 * c) w₃) net₁ e₁ e₂ v′ net₂
             → Back (8 * c) w₃ v′ (putMid (8 * c) (length w₃ - 8 * c) w₃ v′)
-        second-back x′ = let q = j .left .work in let n = whole-length in back (8 * c) w₃ _ (omega arith) (x′ .len)
+        second-back x′ = child-back second-lent (x′ .len)
 
         -- both are done
         module _ {v′ net₂ w₄ : List ℕ} {e₂ : ℕ} (x′ : Written b (treeOf m (stageAt b (rest (8 * c) w₃) 0 (cells b))) (rest (8 * c) w₃) net₁ e₁ e₂ v′ net₂)
@@ -236,12 +200,8 @@ module _ {gate : Gate} {m : ℕ} {ks : List ℕ} {l : Limits} {s t c : ℕ} {w n
 
           pub close-room : CloseRoom w₄ net₂ ks b c e₁ e₂
           close-room =
-              let h = half-second in
+              let h = behind (lent b w₄ without-s (z .places) (k′ .len ∙ whole-length)) in
               let o = j .left .own .own in
-              let q = j .left .work in
-              let e = ap cells (z .places) in
-              let n = whole-length in
-              let n′ = k′ .len in
               let i = j .fits .numbers in
               let u = j .fits .room in
               let p = first-done .count in
@@ -272,13 +232,7 @@ module _ {gate : Gate} {m : ℕ} {ks : List ℕ} {l : Limits} {s t c : ℕ} {w n
 
           second-part : moved b ks (part w₄ (8 * c) (cells b)) ≡ moved (B .ks) ks (computed (B .ks) (treeOf m B))
           second-part =
-              let h = half-second in
-              let o = j .left .own .own in
-              let q = j .left .work in
-              let n = whole-length in
-              let e = ap cells (z .places) in
-              let u = k′ .long in
-              ap₂ (λ (p q : List ℕ). moved p ks q) (z .places) (back-behind (cells b) k′ (omega arith) (omega arith) ∙ ap (part v′ 0) e ∙ second-done .function)
+              ap₂ (λ (p q : List ℕ). moved p ks q) (z .places) (child-function second-lent k′ (second-done .function))
 
           pub joined-whole : {n : ℕ} {w₅ net₃ : List ℕ} → Closed gate ks b c e₁ e₂ w₄ net₂ n w₅ net₃ → Written ks (joinTree m (treeOf m) gate s t y) w net r n w₅ net₃
           joined-whole {n} {w₅} {net₃} d =

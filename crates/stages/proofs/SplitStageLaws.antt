@@ -28,13 +28,12 @@ use Rattle.tables.specs.Part.{part, Laid, Apart, Two}
 use Rattle.tables.specs.Line.{Spread}
 use Rattle.tables.proofs.PartLaws.{part-at, part-same, part-length, laid-part}
 use Rattle.grouping.specs.Joining.{stageAt}
-use Rattle.stage_tables.proofs.DropLaws.{fewer-shaped}
 use Rattle.stage_steps.specs.Putting.{Put}
 use Rattle.stage_steps.specs.Values.{valueCells, valueGates, ValueRoom, ValueBegun, GateRoom, GatesPut}
 use Rattle.stage_steps.proofs.PutLaws.{put-none, put-then, put-as}
 use Rattle.stages.specs.Staging.{Starts, Written, Splits}
-use Rattle.stages.proofs.LentLaws.{rest, rest-length, rest-stage, Back, back, back-behind}
-use Rattle.stages.proofs.ChildLaws.{proper-ready, few-without, starts-as, written-as}
+use Rattle.stages.proofs.LentLaws.{rest, Back, back}
+use Rattle.stages.proofs.ChildLaws.{proper-ready, written-as, Smaller, Lent, falls, child-stage, child-starts, child-back, child-function}
 
 -- the records of the values below k
 abbrev pub soFar : ℕ → Stage → ℕ → ℕ → List Record
@@ -142,8 +141,11 @@ module _ {m : ℕ} {ks : List ℕ} {c : ℕ} {w₀ net₀ : List ℕ} {r : ℕ} 
   some : 1 ≤ width ks
   some = let w = h .left .wide in omega arith
 
-  half : 2 * cells b ≤ cells ks
-  half = let e = lowest-cells ks (ready .pos) some in let l = mul-le-mul-right (cells b) (lowest-two ks (ready .pos) some) in omega arith
+  small : Smaller ks (singleton (lowest ks))
+  small =
+      let e = lowest-cells ks (ready .pos) some in
+      let l = mul-le-mul-right (cells b) (lowest-two ks (ready .pos) some) in
+      record { half = omega arith; fewer = lowest-fewer ks (ready .pos) some }
 
   pub lowest-below : length ks ≡ 8 → lowest ks < 8
   lowest-below e = let l = present-lt ks (lowest ks) (lowest-present ks (ready .pos) some) in omega arith
@@ -176,7 +178,7 @@ module _ {m : ℕ} {ks : List ℕ} {c : ℕ} {w₀ net₀ : List ℕ} {r : ℕ} 
           let d = u .len in
           let e = u .put .bytes .len in
           let g = room-for 0 0 in
-          let p = half in
+          let p = small .half in
           let z = cell-count in
           let y = all-cells in
           record { below = lt; few = omega arith; own = omega arith; work = omega arith; network = omega arith }
@@ -188,20 +190,17 @@ module _ {m : ℕ} {ks : List ℕ} {c : ℕ} {w₀ net₀ : List ℕ} {r : ℕ} 
         limits-at : (f : List ℕ) → valueCells f n values k ≡ tabulate (cells b) (λ j. at f (k + v * j))
         limits-at f = ap₂ (λ (p q : ℕ). valueCells f p q k) cell-count (a .cardinality)
 
-        child-stage : stageAt b₀ (rest (8 * c) w₁) 0 (cells b₀) ≡ cofactorStage k x
-        child-stage =
-            let o = h .left .own .own in
-            let s = h .left .work in
-            let d = length-one in
-            let p = half in
-            let z = ap cells (a .places) in
-            let y = all-cells in
-            rest-stage (8 * c) b₀ w₁ (omega arith)
-            ∙ ap (λ (p : List ℕ). stageAt p w₁ (8 * c) (8 * c + cells p)) (a .places)
+        value-lent : Lent m x c w₀ (singleton (lowest ks)) b₀ w₁
+        value-lent = record { left = h .left; small = small; places = a .places; len = length-one }
+
+        value-stage : stageAt b₀ (rest (8 * c) w₁) 0 (cells b₀) ≡ cofactorStage k x
+        value-stage =
+            child-stage value-lent
+            (ap (λ (p : List ℕ). stageAt p w₁ (8 * c) (8 * c + cells p)) (a .places)
             ∙ ap₂ (λ (l t : List ℕ). limited (record { lower = l; upper = t }))
-            (ap (part w₁ (8 * c)) (sym cell-count) ∙ g .lows ∙ limits-at (part w 0 (values * n)) ∙ ap (λ (l : List ℕ). cofactor l) (ap (part w 0) y ∙ ap (λ (z : Stage). z .limits .lower) (u .stage)))
+            (ap (part w₁ (8 * c)) (sym cell-count) ∙ g .lows ∙ limits-at (part w 0 (values * n)) ∙ ap (λ (l : List ℕ). cofactor l) (ap (part w 0) all-cells ∙ ap (λ (z : Stage). z .limits .lower) (u .stage)))
             (ap₂ (λ (p q : ℕ). part w₁ (8 * c + p) q) (sym cell-count) (sym cell-count) ∙ g .highs ∙ limits-at (part w c (values * n))
-            ∙ ap (λ (l : List ℕ). cofactor l) (ap (part w c) y ∙ ap (λ (z : Stage). z .limits .upper) (u .stage)))
+            ∙ ap (λ (l : List ℕ). cofactor l) (ap (part w c) all-cells ∙ ap (λ (z : Stage). z .limits .upper) (u .stage))))
           where
             limited : Limits → Stage
             limited l = record { ks = b; limits = l }
@@ -209,32 +208,27 @@ module _ {m : ℕ} {ks : List ℕ} {c : ℕ} {w₀ net₀ : List ℕ} {r : ℕ} 
             cofactor : List ℕ → List ℕ
             cofactor f = tabulate (cells b) (λ j. at f (k + v * j))
 
-        pub child-fewer : 2 * width b₀ + 1 < 2 * width ks
-        child-fewer = let e = ap width (a .places) in let l = lowest-fewer ks (ready .pos) some in omega arith
+        pub value-fewer : 2 * width b₀ + 1 < 2 * width ks
+        value-fewer = falls value-lent
 
-        pub child-starts : Starts m b₀ (rest (8 * c) w₁) net₁ (next + 1)
-        child-starts =
-            let o = h .left .own .own in
-            let s = h .left .work in
-            let d = length-one in
-            let p = half in
-            let l = rest-length (8 * c) w₁ in
+        pub value-starts : Starts m b₀ (rest (8 * c) w₁) net₁ (next + 1)
+        value-starts =
             let z = room-for 0 0 in
             let e = u .put .bytes .len in
             let f = g .put .bytes .len in
             let j = h .fits .numbers in
             let q = h .fits .room in
             let y = a .cardinality in
-            starts-as m (cofactorStage k x) child-stage (fewer-shaped (singleton (lowest ks)) (h .left .own .shaped)) (few-without (singleton (lowest ks)) ks (h .left .few))
-            (omega arith) (cofactor-ready x (ready .pos) some k m ready (omega arith)) (record { numbers = omega arith; room = omega arith })
+            child-starts value-lent (cofactorStage k x .limits) value-stage (cofactor-ready x (ready .pos) some k m ready (omega arith))
+            (record { numbers = omega arith; room = omega arith })
 
         -- its stage is done
         module _ {v′ net₂ : List ℕ} {e : ℕ} (y : Written b₀ (treeOf m (stageAt b₀ (rest (8 * c) w₁) 0 (cells b₀))) (rest (8 * c) w₁) net₁ (next + 1) e v′ net₂) where
           child-done : Written b (treeOf m (cofactorStage k x)) (rest (8 * c) w₁) net₁ (next + 1) e v′ net₂
-          child-done = written-as m (cofactorStage k x) child-stage y
+          child-done = written-as m (cofactorStage k x) value-stage y
 
-          pub child-back : Back (8 * c) w₁ v′ (putMid (8 * c) (length w₁ - 8 * c) w₁ v′)
-          child-back = let s = h .left .work in let d = length-one in back (8 * c) w₁ v′ (omega arith) (y .len)
+          pub value-back : Back (8 * c) w₁ v′ (putMid (8 * c) (length w₁ - 8 * c) w₁ v′)
+          value-back = child-back value-lent (y .len)
 
           pub gate-room : GateRoom net₂ k next e
           gate-room =
@@ -257,7 +251,7 @@ module _ {m : ℕ} {ks : List ℕ} {c : ℕ} {w₀ net₀ : List ℕ} {r : ℕ} 
                 let o = h .left .own .own in
                 let s = h .left .work in
                 let d = length-two in
-                let p = half in
+                let p = small .half in
                 let q = cell-count in
                 let y = all-cells in
                 record { src = omega arith; dst = omega arith; apart = inr (omega arith) }
@@ -267,14 +261,7 @@ module _ {m : ℕ} {ks : List ℕ} {c : ℕ} {w₀ net₀ : List ℕ} {r : ℕ} 
             before-child j l = z .front j l ∙ g .before j l
 
             child-table : (j : ℕ) → j < cells b → at (part w₂ (8 * c) n) j ≡ at (computed b (treeOf m (cofactorStage k x))) j
-            child-table j l =
-                let o = h .left .own .own in
-                let s = h .left .work in
-                let d = length-one in
-                let p = half in
-                let q = z .long in
-                ap (λ (f : List ℕ). at f j)
-                (ap (part w₂ (8 * c)) cell-count ∙ back-behind (cells b) z (omega arith) (omega arith) ∙ child-done .function)
+            child-table j l = ap (λ (f : List ℕ). at f j) (ap (part w₂ (8 * c)) (a .count) ∙ child-function value-lent z (child-done .function))
 
             -- its function is spread over the cells with value k
             module _ {w₃ : List ℕ} (f : Spread w₂ (2 * c + k) values (at (part w₂ (8 * c) n)) n w₃) where

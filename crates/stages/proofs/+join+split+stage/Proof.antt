@@ -12,7 +12,7 @@ use Rattle.laws.proofs.TreeLaws.{size-pos}
 use Rattle.grouping.specs.Joining.{stageAt}
 use Rattle.laws.proofs.LoopLaws.{card-read}
 use Rattle.stages.specs.Staging.{Written, Splits}
-use Rattle.stages.proofs.SplitStageLaws.{Axis, Turn, turn-none, lowest-below, all-cells, value-room, child-starts, child-fewer, child-back, gate-room, value-spread, turn-more, copy-room, split-whole}
+use Rattle.stages.proofs.SplitStageLaws.{Axis, Turn, turn-none, lowest-below, all-cells, value-room, value-starts, value-fewer, value-back, gate-room, value-spread, turn-more, copy-room, split-whole}
 use Rattle.stages.proofs.StageEndLaws.{written-here, own-room, fewer, spread-room, whole, leaf-room, leaf-whole, choose-room, splits, split-done, joins, join-done}
 use Rattle.stages.proofs.BlockStageLaws.{first-room, first-starts, first-fewer, first-back, second-room, second-starts, second-fewer, second-back, close-room, joined-whole}
 use borrow.Fn.Kinds.{In}
@@ -279,7 +279,7 @@ split-add-stage : (t : ℕ) → split-lts.Need-add-stage (split-claims t) (split
 split-add-stage t c =
     let h = c .before .before .before .before .before .before .before .before .before .before .before .before .before .before .before .before .before .pre .1 in
     let a = split-axis t (c .before .before .before .before .before .before .before .before .before .before .before) in
-    let s = child-starts h a (c .before .before .before .before .before .before .before .before .before .before .loop .inv .1 _ h a) (search needs) (c .before .before .before .before .before .before .begin-value .ensures) .fits .numbers in
+    let s = value-starts h a (c .before .before .before .before .before .before .before .before .before .before .loop .inv .1 _ h a) (search needs) (c .before .before .before .before .before .before .begin-value .ensures) .fits .numbers in
     search needs
 
 split-stage-requires : (t : ℕ) → split-lts.Need-stage-requires (split-claims t) (split-at t) split.Post split-Inv-loop split-μ-loop
@@ -289,7 +289,7 @@ split-stage-requires t c κs =
     let u = c .before .before .before .before .before .before .before .before .before .before .loop .inv .1 _ h a in
     let lt : c .before .before .before .before .before .before .before .before .before .before .loop .k < getD (c .before .before .before .before .before .before .before .before .before .before .before .before .before .before .before .before .before .args .t3) (c .before .before .before .before .before .before .before .before .before .before .before .before .before .before .lowest .result) 0 = search needs in
     let g = c .before .before .before .before .before .before .begin-value .ensures in
-    (let e = c .before .before .before .before .before .before .before .before .before .before .before .before .before .before .before .before .before .pre .0 in let f = child-fewer h a u lt g in omega arith, child-starts h a u lt g)
+    (let e = c .before .before .before .before .before .before .before .before .before .before .before .before .before .before .before .before .before .pre .0 in let f = value-fewer h a u lt g in omega arith, value-starts h a u lt g)
 
 split-mul-uncofactor : (t : ℕ) → split-lts.Need-mul-uncofactor (split-claims t) (split-at t) split.Post split-Inv-loop split-μ-loop
 split-mul-uncofactor t c = let h = c .before .before .before .before .before .before .before .before .before .before .before .before .before .before .before .before .before .before .before .before .before .before .before .pre .1 .left .work in search needs
@@ -302,7 +302,7 @@ split-uncofactor-requires t c κs =
     let lt : c .before .before .before .before .before .before .before .before .before .before .before .before .before .before .before .before .loop .k < getD (c .before .before .before .before .before .before .before .before .before .before .before .before .before .before .before .before .before .before .before .before .before .before .before .args .t3) (c .before .before .before .before .before .before .before .before .before .before .before .before .before .before .before .before .before .before .before .before .lowest .result) 0 = search needs in
     let g = c .before .before .before .before .before .before .before .before .before .before .before .before .begin-value .ensures in
     let y = c .before .before .before .before .before .stage .ensures in
-    (lt, value-spread h a u lt g y (child-back h a u lt g y))
+    (lt, value-spread h a u lt g y (value-back h a u lt g y))
 
 split-end-value-requires : (t : ℕ) → split-lts.Need-end-value-requires (split-claims t) (split-at t) split.Post split-Inv-loop split-μ-loop
 split-end-value-requires t c κs =
@@ -331,7 +331,7 @@ split-loop-again t c =
           let u = c .before .before .before .before .before .before .before .before .before .before .before .before .before .before .before .before .before .before .before .before .before .before .before .loop .inv .1 ks h a in
           let g = c .before .before .before .before .before .before .before .before .before .before .before .before .before .before .before .before .before .before .before .begin-value .ensures in
           let y = c .before .before .before .before .before .before .before .before .before .before .before .before .stage .ensures in
-          turn-more h a u lt g y (child-back h a u lt g y) (c .before .before .before .before .before .before .uncofactor .ensures) (c .before .before .end-value .ensures),
+          turn-more h a u lt g y (value-back h a u lt g y) (c .before .before .before .before .before .before .uncofactor .ensures) (c .before .before .end-value .ensures),
     )
 
 split-mul-copy : (t : ℕ) → split-lts.Need-mul-copy (split-claims t) (split-at t) split.Post split-Inv-loop split-μ-loop
