@@ -13,10 +13,10 @@
  *   - a buffer that is not const shares no byte with another buffer;
  *   - nothing else writes to the buffers before the call returns.
  * Any contents are safe: a fault in them is answered by a refusal, and a call
- * that is refused changes no byte of any buffer. Buffers may be longer than
- * asked for: the bytes past those that a call writes stay as they are. A call
- * keeps nothing when it returns, so threads may call at once, each with
- * buffers of its own to write.
+ * that is refused changes no byte of any buffer. Buffers of limits, blocks and
+ * work, and all that a call writes, may be longer than asked for: the bytes
+ * past those that it writes stay as they are. A call keeps nothing when it
+ * returns, so threads may call at once, each with buffers of its own to write.
  *
  * Stack: less than 1 KiB for grades_read, 5 KiB for grades_evaluate and
  * grades_check, 6 KiB for grades_compile, 9 KiB for the joins.
