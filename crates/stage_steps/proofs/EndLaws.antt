@@ -17,7 +17,7 @@ use Rattle.laws.proofs.TableLaws.{length-tabulateFrom, tabulate-same, tabulate-
 use Rattle.tables.specs.Part.{part, Laid, Apart}
 use Rattle.tables.proofs.PartLaws.{part-at, part-length, laid-part}
 use Rattle.stage_tables.specs.Blocks.{stageOf}
-use Rattle.stage_steps.specs.Ends.{LeafRoom, LeafPut, SpreadRoom, Spreaded}
+use Rattle.stage_steps.specs.Ends.{LeafRoom, LeafPut, SpreadRoom, SpreadLaid}
 use Rattle.stage_steps.specs.Putting.{Put}
 use Rattle.stage_steps.proofs.PutLaws.{put-one, put-as}
 
@@ -76,7 +76,7 @@ moved-self ks f p e =
     (tabulate-self (λ c. at f (remap ks ks c)) f (λ c l. ap (at f) (cell-value ks c p (omega arith))))
 
 module _ {w ks b : List ℕ} (p : SpreadRoom w ks b) where
-  pub spread-none : b ≡ ks → Spreaded ks b w w
+  pub spread-none : b ≡ ks → SpreadLaid ks b w w
   spread-none e =
       record {
         here =
@@ -93,7 +93,7 @@ module _ {w ks b : List ℕ} (p : SpreadRoom w ks b) where
     pub moved-room : {v : List ℕ} → Laid w (2 * k) (part w 0 n) n v → Apart v (2 * k) (cells b) 0 (cells ks)
     moved-room l = let o = p .own in let h = p .room in let q = l .len in record { src = omega arith; dst = omega arith; apart = inr (omega arith) }
 
-    pub spread-some : {v w′ : List ℕ} → Laid w (2 * k) (part w 0 n) n v → Laid v 0 (moved b ks (part v (2 * k) (cells b))) (cells ks) w′ → Spreaded ks b w w′
+    pub spread-some : {v w′ : List ℕ} → Laid w (2 * k) (part w 0 n) n v → Laid v 0 (moved b ks (part v (2 * k) (cells b))) (cells ks) w′ → SpreadLaid ks b w w′
     spread-some {v} {w′} l m =
         let o = p .own in
         let h = p .room in

@@ -32,7 +32,7 @@ pub record SpreadRoom (w ks b : List ℕ) : Type 0 where
   pub own : cells b ≤ cells ks
   pub room : 8 * cells ks ≤ length w
 
-pub record Spreaded (ks b w w′ : List ℕ) : Type 0 where
+pub record SpreadLaid (ks b w w′ : List ℕ) : Type 0 where
   pub here : part w′ 0 (cells ks) ≡ moved b ks (part w 0 (cells b))
   pub len : length w′ ≡ length w
 

@@ -11,7 +11,7 @@ use tables::moves;
 ghost use Prim.Native.Nat.{_*_, _+_};
 ghost use mathlib.Core.Path.{_≡_};
 ghost use mathlib.Core.Bool.{true};
-ghost use Rattle.stage_steps.specs.Ends.{LeafRoom, LeafPut, CloseRoom, Closed, SpreadRoom, Spreaded};
+ghost use Rattle.stage_steps.specs.Ends.{LeafRoom, LeafPut, CloseRoom, Closed, SpreadRoom, SpreadLaid};
 
 // Step 2: a constant or a literal, of the lower grades at the front of the buffer.
 pub fn leaf(w: &[u8], network: &mut [u8], ks: [u8; 8], r: usize)
@@ -61,7 +61,7 @@ fn same(a: [u8; 8], b: [u8; 8]) -> bool
 // dropped.
 pub fn spread(w: &mut [u8], b: [u8; 8], ks: [u8; 8])
     requires { ⌜ SpreadRoom (now w) ks b ⌝ }
-    ensures { λ _. ⌜ Spreaded ks b (now (w .entry)) (now (w .exit)) ⌝ }
+    ensures { λ _. ⌜ SpreadLaid ks b (now (w .entry)) (now (w .exit)) ⌝ }
 {
     if same(b, ks) {
         return;

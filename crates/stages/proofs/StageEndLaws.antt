@@ -29,7 +29,7 @@ use Rattle.stage_tables.specs.Choosing.{choiceOf, Prepared, Chosen}
 use Rattle.stage_tables.specs.Blocks.{stageOf}
 use Rattle.stage_tables.proofs.DropLaws.{as-shaped}
 use Rattle.stage_steps.specs.Putting.{Put}
-use Rattle.stage_steps.specs.Ends.{LeafRoom, LeafPut, SpreadRoom, Spreaded}
+use Rattle.stage_steps.specs.Ends.{LeafRoom, LeafPut, SpreadRoom, SpreadLaid}
 use Rattle.stage_steps.proofs.PutLaws.{put-as}
 use Rattle.stages.specs.Staging.{Fits, Starts, Written, Left, Joins, Splits, Joined}
 use Rattle.stages.proofs.ChildLaws.{proper-ready, ready-proper}
@@ -91,7 +91,7 @@ module _ {m : ℕ} {ks w net : List ℕ} {r : ℕ} (s : Starts m ks w net r) whe
       spread-room e = let q = s .work in let f = d .len in record { shaped = s .shaped; fewer = shaped; own = less; room = omega arith }
 
       -- the function of the conditions left, over all of the stage's own
-      pub whole : {w₂ w₃ w₄ net′ : List ℕ} {e : ℕ} → length w₂ ≡ length w₁ → Written l (treeOf m x) w₂ net r e w₃ net′ → Spreaded ks l w₃ w₄ → Written ks (treeOf m x) w net r e w₄ net′
+      pub whole : {w₂ w₃ w₄ net′ : List ℕ} {e : ℕ} → length w₂ ≡ length w₁ → Written l (treeOf m x) w₂ net r e w₃ net′ → SpreadLaid ks l w₃ w₄ → Written ks (treeOf m x) w net r e w₄ net′
       whole q h g =
           record {
             count = h .count;
@@ -129,7 +129,7 @@ module _ {m : ℕ} {ks w net : List ℕ} {r : ℕ} (s : Starts m ks w net r) whe
             ∙ sym (tabulate-self (at (y .limits .lower)) (y .limits .lower) (λ v h. refl)) ∙ ap (λ (k : ℕ). tabulate k (at (y .limits .lower))) n
             ∙ sym (leaf m x ready o) ∙ ap (λ (k : List ℕ). computed k (treeOf m x)) (sym places)
 
-        pub leaf-whole : {net′ w₂ : List ℕ} → LeafPut l w₁ net r net′ → Spreaded ks l w₁ w₂ → Written ks (treeOf m x) w net r (r + 1) w₂ net′
+        pub leaf-whole : {net′ w₂ : List ℕ} → LeafPut l w₁ net r net′ → SpreadLaid ks l w₁ w₂ → Written ks (treeOf m x) w net r (r + 1) w₂ net′
         leaf-whole {net′} {w₂} p g =
             let o : width (y .ks) < 2 = let e = ap width places in omega arith in
             let one : size (treeOf m x) ≡ 1 = ap size (network-left m x (ready .pos)) ∙ leaf-size (width (y .ks)) o in

@@ -15,7 +15,8 @@ ghost use Rattle.rules.specs.Cell.{cells};
 ghost use Rattle.grouping.specs.Joining.{stageAt};
 ghost use Rattle.stages.specs.Staging.{Starts, Written, Splits, CanJoin, Joined};
 
-// Step 6.
+// Step 6: a stage for each value of the lowest condition, with a literal before it and gates behind it.
+// Their functions are collected in part 2.
 fn split(w: &mut [u8], network: &mut [u8], ks: [u8; 8], m: u8, c: usize, r: usize) -> usize
     requires { ⌜ Splits m ks c (now w) (now network) r ⌝ }
     ensures { λ e. ⌜ Written ks (choiceTree m (treeOf m) split (stageAt ks (now (w .entry)) 0 c)) (now (w .entry)) (now (network .entry)) r e (now (w .exit)) (now (network .exit)) ⌝ }
@@ -36,7 +37,8 @@ fn split(w: &mut [u8], network: &mut [u8], ks: [u8; 8], m: u8, c: usize, r: usiz
     next
 }
 
-// Step 5.
+// Step 5: a stage for each block, then the gate. The second block is made from the function of the
+// first.
 fn join(
     w: &mut [u8],
     network: &mut [u8],
