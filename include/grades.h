@@ -1,6 +1,15 @@
 /*
- * Grade networks, for a C program. Link with libpanel.a; of the C library it
- * needs memset and memcpy alone.
+ * Grade networks, for a C program on x86-64.
+ *
+ * libpanel.a holds the calls: ELF code for x86-64 with the System V calling
+ * convention, which needs nothing but memset and memcpy of a C library. To
+ * build it, and a program with it:
+ *
+ *   rt staticlib panel
+ *   cc -I include -o program program.c target/staticlib/libpanel.a
+ *
+ * Name the archive by its path: -lpanel may find the one of ncurses, which has
+ * the same name. examples/panel.c is a whole program.
  *
  * A table has conditions, each with a few values. A cell is one choice of a
  * value for every condition. A table gives a lower and an upper grade for each
@@ -17,9 +26,6 @@
  * work, and all that a call writes, may be longer than asked for: the bytes
  * past those that it writes stay as they are. A call keeps nothing when it
  * returns, so threads may call at once, each with buffers of its own to write.
- *
- * Stack: less than 1 KiB for grades_read, 5 KiB for grades_evaluate and
- * grades_check, 6 KiB for grades_compile, 9 KiB for the joins.
  */
 #ifndef GRADES_H
 #define GRADES_H
@@ -73,45 +79,98 @@ extern "C" {
 #define GRADES_SHAPE_BYTES 10
 #define GRADES_RECORD_BYTES 16
 
+/* The most of a shape: conditions, values of a condition, grades, cells. */
+#define GRADES_MAX_CONDITIONS 8
+#define GRADES_MAX_VALUES 8
+#define GRADES_MAX_GRADES 16
+#define GRADES_MAX_CELLS 1024
+
+/* The most of a file, in records and in bytes. */
+#define GRADES_MAX_FILE_RECORDS 1033
+#define GRADES_MAX_FILE_BYTES 16528
+
+/* The most records of a network, and of one that grades_compile writes. */
+#define GRADES_MAX_RECORDS 4096
+#define GRADES_MAX_COMPILED_RECORDS 3067
+
 /*
- * An answer of GRADES_CALL_REFUSED or more is a refusal: 65536 plus its
- * number. Each call names the refusals that it has, in the order in which it
- * tests for them, and answers the first that applies. grades_evaluate has
- * answers of its own, below.
+ * The bytes that a call asks for; one byte less is refused. For a table of
+ * any shape take cells as GRADES_MAX_CELLS. The second uses cells twice.
+ *   GRADES_COMPILE_WORK_BYTES     work of grades_compile
+ *   GRADES_COMPILE_NETWORK_BYTES  network of grades_compile
+ *   GRADES_RUN_WORK_BYTES         work of grades_check and grades_evaluate
  */
-#define GRADES_CALL_REFUSED 65536u
+#define GRADES_COMPILE_WORK_BYTES(cells) (16u * (cells))
+#define GRADES_COMPILE_NETWORK_BYTES(cells) \
+    (16u * ((cells) == 1u ? 1u : 3u * (cells) - 5u))
+#define GRADES_RUN_WORK_BYTES(network_bytes) ((network_bytes) / 16u)
+
+/*
+ * Stack: a call takes fewer bytes than these, with its arguments and its
+ * return address. What memset and memcpy take, and the loader when it binds
+ * them, comes on top.
+ *   GRADES_RUN_STACK_BYTES   grades_check and grades_evaluate
+ *   GRADES_JOIN_STACK_BYTES  each of the four joins
+ */
+#define GRADES_READ_STACK_BYTES 1024
+#define GRADES_RUN_STACK_BYTES 5120
+#define GRADES_COMPILE_STACK_BYTES 6144
+#define GRADES_JOIN_STACK_BYTES 9216
+
+/*
+ * Refusals are in two families, each a number of its own plus the refusal's,
+ * 1 to 12. An answer that is not below the family's number is a refusal.
+ *   GRADES_REFUSED           every call but grades_evaluate: above every count
+ *                            of records and every answer of grades_check
+ *   GRADES_EVALUATE_REFUSED  grades_evaluate: above every grade
+ * No answer of grades_evaluate reaches GRADES_REFUSED, so to compare the two
+ * would take a refusal for a grade.
+ *
+ * Each call names its refusals in the order in which it tests for them, and
+ * answers the first that applies.
+ */
+#define GRADES_REFUSED 65536u
 /* No record, a length that is no multiple of 16, more than 1033 records. */
-#define GRADES_CALL_REFUSED_FILE_LENGTH (GRADES_CALL_REFUSED + 1u)
+#define GRADES_REFUSED_FILE_LENGTH (GRADES_REFUSED + 1u)
 /* A record of a file: an unknown kind, or a byte set that must be 0. */
-#define GRADES_CALL_REFUSED_RECORD_BYTES (GRADES_CALL_REFUSED + 2u)
+#define GRADES_REFUSED_RECORD_BYTES (GRADES_REFUSED + 2u)
 /* A record out of the order above, or no grades record in the file. */
-#define GRADES_CALL_REFUSED_RECORD_ORDER (GRADES_CALL_REFUSED + 3u)
+#define GRADES_REFUSED_RECORD_ORDER (GRADES_REFUSED + 3u)
 /* A shape, or the record that would make it, outside the limits above; a
  * shape lent in more or fewer than ten bytes. */
-#define GRADES_CALL_REFUSED_SHAPE (GRADES_CALL_REFUSED + 4u)
+#define GRADES_REFUSED_SHAPE (GRADES_REFUSED + 4u)
 /* A lower grade above the upper, or an upper grade that is not below m. */
-#define GRADES_CALL_REFUSED_LIMITS (GRADES_CALL_REFUSED + 5u)
+#define GRADES_REFUSED_LIMITS (GRADES_REFUSED + 5u)
 /* A record of a cell: a value that its condition does not have, or a cell
  * that is not after the one before. */
-#define GRADES_CALL_REFUSED_CELL_VALUES (GRADES_CALL_REFUSED + 6u)
+#define GRADES_REFUSED_CELL_VALUES (GRADES_REFUSED + 6u)
 /* A set that is empty, that overlaps the other, or that has a condition which
  * the shape does not have. */
-#define GRADES_CALL_REFUSED_SETS (GRADES_CALL_REFUSED + 7u)
+#define GRADES_REFUSED_SETS (GRADES_REFUSED + 7u)
 /* The join does not exist. */
-#define GRADES_CALL_REFUSED_NO_JOIN (GRADES_CALL_REFUSED + 8u)
-/* A first block outside its limits, or one that depends on a condition of t. */
-#define GRADES_CALL_REFUSED_FIRST_BLOCK (GRADES_CALL_REFUSED + 9u)
+#define GRADES_REFUSED_NO_JOIN (GRADES_REFUSED + 8u)
+/* A first block outside its limits, or that depends on a condition of t. */
+#define GRADES_REFUSED_FIRST_BLOCK (GRADES_REFUSED + 9u)
 /* A buffer that is too short. */
-#define GRADES_CALL_REFUSED_BUFFER (GRADES_CALL_REFUSED + 10u)
+#define GRADES_REFUSED_BUFFER (GRADES_REFUSED + 10u)
 /* No record, more than 4096, a length that is no multiple of 16, or a record
  * that is not as above: an unknown kind, a byte set that must be 0, a grade
  * not below m, a condition that the shape does not have, or the number of a
  * record that does not come before. */
-#define GRADES_CALL_REFUSED_NETWORK (GRADES_CALL_REFUSED + 11u)
+#define GRADES_REFUSED_NETWORK (GRADES_REFUSED + 11u)
+
+/* Of grades_evaluate: a name that ends alike is the same refusal. The last is
+ * for the number of a cell that is not below the number of cells. */
+#define GRADES_EVALUATE_REFUSED 256u
+#define GRADES_EVALUATE_REFUSED_SHAPE (GRADES_EVALUATE_REFUSED + 4u)
+#define GRADES_EVALUATE_REFUSED_BUFFER (GRADES_EVALUATE_REFUSED + 10u)
+#define GRADES_EVALUATE_REFUSED_NETWORK (GRADES_EVALUATE_REFUSED + 11u)
+#define GRADES_EVALUATE_REFUSED_CELL (GRADES_EVALUATE_REFUSED + 12u)
 
 /*
  * Reads a table file: writes the shape's ten bytes and the limits of all
- * cells. Buffers of 10, 1024 and 1024 bytes are enough for every file.
+ * cells. GRADES_SHAPE_BYTES for the shape and GRADES_MAX_CELLS for each of the
+ * limits are enough for every file.
  *
  * Answers 0. Refusals: FILE_LENGTH; then record by record RECORD_BYTES,
  * RECORD_ORDER, and SHAPE for a condition or the grades, CELL_VALUES and
@@ -172,13 +231,13 @@ uint32_t grades_join_min_second(const uint8_t *shape, size_t shape_bytes,
  * Compiles a table: writes the records of a network whose grade is within the
  * limits in every cell.
  *
- * work: sixteen bytes for each cell; any contents. They hold anything after
- * records were written.
- * network: sixteen bytes for each of 3 * cells - 5 records, or for one record
- * where there is one cell. 16384 and 49072 bytes are enough for every table.
+ * work: GRADES_COMPILE_WORK_BYTES(cells), sixteen for each cell; any contents.
+ * They hold anything after records were written.
+ * network: GRADES_COMPILE_NETWORK_BYTES(cells), sixteen for each of
+ * 3 * cells - 5 records, or for one record where there is one cell.
  *
- * Answers the number of records, 1 to 3067. Refusals: SHAPE; BUFFER, for
- * limits, work or network; LIMITS.
+ * Answers the number of records, 1 to GRADES_MAX_COMPILED_RECORDS. Refusals:
+ * SHAPE; BUFFER, for limits, work or network; LIMITS.
  */
 uint32_t grades_compile(const uint8_t *shape, size_t shape_bytes,
                         const uint8_t *lower, size_t lower_bytes,
@@ -189,16 +248,19 @@ uint32_t grades_compile(const uint8_t *shape, size_t shape_bytes,
 /*
  * Checks a network, whoever made it, against a table's limits.
  *
- * work: a byte for each record; any contents. They hold anything after a call
- * that was not refused.
+ * work: GRADES_RUN_WORK_BYTES(network_bytes), a byte for each record; any
+ * contents. They hold anything after a call that was not refused.
  *
  * Answers 0 if in every cell the network's grade is within the limits; else,
  * of the first cell where it is not,
  *   1 + 16 * cell + grade
- * so that the cell is (answer - 1) / 16 and the grade (answer - 1) % 16.
+ * from which GRADES_OUTSIDE_CELL and GRADES_OUTSIDE_GRADE take the two.
  * Refusals: SHAPE; BUFFER, for limits, or for work_bytes less than
  * network_bytes / 16, rounded down; LIMITS; NETWORK.
  */
+#define GRADES_OUTSIDE_CELL(answer) (((answer) - 1u) / 16u)
+#define GRADES_OUTSIDE_GRADE(answer) (((answer) - 1u) % 16u)
+
 uint32_t grades_check(const uint8_t *network, size_t network_bytes,
                       const uint8_t *shape, size_t shape_bytes,
                       const uint8_t *lower, size_t lower_bytes,
@@ -206,30 +268,15 @@ uint32_t grades_check(const uint8_t *network, size_t network_bytes,
                       uint8_t *work, size_t work_bytes);
 
 /*
- * An answer of grades_evaluate that is 256 or more is a refusal: 256 plus its
- * number. The call tests for these in this order.
- */
-#define GRADES_REFUSED 256u
-#define GRADES_REFUSED_SHAPE (GRADES_REFUSED + 4u)
-#define GRADES_REFUSED_WORK (GRADES_REFUSED + 10u)
-#define GRADES_REFUSED_NETWORK (GRADES_REFUSED + 11u)
-#define GRADES_REFUSED_CELL (GRADES_REFUSED + 12u)
-
-/*
  * The grade of a network at a cell.
  *
- * work: a byte for each record; any contents. They hold anything after a
- * grade.
+ * work: GRADES_RUN_WORK_BYTES(network_bytes), a byte for each record; any
+ * contents. They hold anything after a grade.
  * cell: the number of a cell.
  *
- * Answers:
- *   0 to 15  the grade
- *   260      GRADES_REFUSED_SHAPE: shape_bytes is not 10, or a byte of the
- *            shape or the number of cells is outside the limits above
- *   266      GRADES_REFUSED_WORK: work_bytes is less than network_bytes / 16,
- *            rounded down
- *   267      GRADES_REFUSED_NETWORK: as GRADES_CALL_REFUSED_NETWORK
- *   268      GRADES_REFUSED_CELL: cell is not below the number of cells
+ * Answers the grade, 0 to 15. Refusals, here of GRADES_EVALUATE_REFUSED:
+ * SHAPE; BUFFER, for work_bytes less than network_bytes / 16, rounded down;
+ * NETWORK; CELL, for a cell that is not below the number of cells.
  */
 uint32_t grades_evaluate(const uint8_t *network, size_t network_bytes,
                          const uint8_t *shape, size_t shape_bytes,

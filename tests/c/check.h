@@ -1,6 +1,6 @@
 /*
- * What the C programs share: a count of checks, and table E of document 01
- * with its network.
+ * What the C programs share: a count of checks, table E of document 01 with
+ * its file and its network, and other tables of four cells.
  */
 #ifndef CHECK_H
 #define CHECK_H
@@ -11,6 +11,7 @@
 #include <string.h>
 
 #define RECORD GRADES_RECORD_BYTES
+#define CELLS 4
 #define FILL 99
 
 static unsigned checks;
@@ -53,8 +54,19 @@ static int checked(const char *program)
     return 0;
 }
 
-/* Parity of two conditions of two values: 0, 1, 1, 0. */
+/* E: parity of two conditions of two values. */
 static const uint8_t square[GRADES_SHAPE_BYTES] = {2, 2, 2, 0, 0, 0, 0, 0, 0, 2};
+static const uint8_t odd[CELLS] = {0, 1, 1, 0};
+
+static const uint8_t file_of_e[7][RECORD] = {
+    {1, 0, 2},
+    {1, 1, 2},
+    {2, 2},
+    {3, 0, 0, 0, 0, 0, 0, 0, 0, 0},
+    {3, 1, 1, 0, 0, 0, 0, 0, 1, 0},
+    {3, 1, 1, 0, 0, 0, 0, 0, 0, 1},
+    {3, 0, 0, 0, 0, 0, 0, 0, 1, 1},
+};
 
 static const uint8_t parity[7][RECORD] = {
     {1, 0, 0, 0, 0, 0, 0, 0, 1, 0},
@@ -66,5 +78,10 @@ static const uint8_t parity[7][RECORD] = {
     {3, 0, 0, 0, 2, 0, 5, 0},
 };
 static const size_t parity_bytes = sizeof parity;
+
+/* The greater and the lesser of the two conditions; the first alone. */
+static const uint8_t either[CELLS] = {0, 1, 1, 1};
+static const uint8_t both[CELLS] = {0, 0, 0, 1};
+static const uint8_t of_first[CELLS] = {0, 1, 0, 1};
 
 #endif

@@ -4,14 +4,13 @@
  */
 #include "check.h"
 
-#define MOST_RECORDS 4096
 #define GUARD 64
 
 /* One record more than a network may have. */
-static uint8_t network[(MOST_RECORDS + 1) * RECORD];
+static uint8_t network[(GRADES_MAX_RECORDS + 1) * RECORD];
 
 /* The work buffer, between two guards. */
-static uint8_t around[GUARD + MOST_RECORDS + 1 + GUARD];
+static uint8_t around[GUARD + GRADES_MAX_RECORDS + 1 + GUARD];
 
 /* By kind, the bytes that must be zero. */
 static const char must_be_zero[4][RECORD + 1] = {
@@ -21,11 +20,10 @@ static const char must_be_zero[4][RECORD + 1] = {
     ".000....00000000",
 };
 
-static void expect(const char *name, size_t network_bytes, const uint8_t *shape,
-                   size_t shape_bytes, size_t work_bytes, uint32_t cell, uint32_t wanted)
+static void expect(const char *name, size_t network_bytes, const uint8_t *shape, size_t shape_bytes,
+                   size_t work_bytes, uint32_t cell, uint32_t wanted)
 {
-    size_t records = network_bytes / RECORD;
-    size_t written = wanted < GRADES_REFUSED ? records : 0;
+    size_t written = wanted < GRADES_EVALUATE_REFUSED ? GRADES_RUN_WORK_BYTES(network_bytes) : 0;
     uint8_t *work = around + GUARD;
     uint32_t answer;
 
@@ -50,7 +48,7 @@ static void expect_damaged(const char *name, size_t record, size_t byte, uint8_t
 {
     lend_parity();
     network[record * RECORD + byte] = value;
-    expect(name, parity_bytes, square, sizeof square, 7, 0, GRADES_REFUSED_NETWORK);
+    expect(name, parity_bytes, square, sizeof square, 7, 0, GRADES_EVALUATE_REFUSED_NETWORK);
 }
 
 static void expect_shape(const char *name, const uint8_t *shape, uint32_t cell, uint32_t wanted)
@@ -84,33 +82,37 @@ static void shapes(void)
     static const uint8_t no_conditions[10] = {0, 0, 0, 0, 0, 0, 0, 0, 0, 16};
 
     lend_parity();
-    expect("no shape bytes", parity_bytes, square, 0, 7, 0, GRADES_REFUSED_SHAPE);
-    expect("nine shape bytes", parity_bytes, square, 9, 7, 0, GRADES_REFUSED_SHAPE);
-    expect("eleven shape bytes", parity_bytes, eleven, 11, 7, 0, GRADES_REFUSED_SHAPE);
-    expect_shape("nine conditions", nine_conditions, 0, GRADES_REFUSED_SHAPE);
-    expect_shape("a condition of one value", one_value, 0, GRADES_REFUSED_SHAPE);
-    expect_shape("a condition of nine values", nine_values, 0, GRADES_REFUSED_SHAPE);
-    expect_shape("values past the last condition", past_the_last, 0, GRADES_REFUSED_SHAPE);
-    expect_shape("one grade", one_grade, 0, GRADES_REFUSED_SHAPE);
-    expect_shape("seventeen grades", seventeen_grades, 0, GRADES_REFUSED_SHAPE);
-    expect_shape("1536 cells", too_many_cells, 0, GRADES_REFUSED_SHAPE);
+    expect("no shape bytes", parity_bytes, square, 0, 7, 0, GRADES_EVALUATE_REFUSED_SHAPE);
+    expect("nine shape bytes", parity_bytes, square, 9, 7, 0, GRADES_EVALUATE_REFUSED_SHAPE);
+    expect("eleven shape bytes", parity_bytes, eleven, 11, 7, 0, GRADES_EVALUATE_REFUSED_SHAPE);
+    expect_shape("nine conditions", nine_conditions, 0, GRADES_EVALUATE_REFUSED_SHAPE);
+    expect_shape("a condition of one value", one_value, 0, GRADES_EVALUATE_REFUSED_SHAPE);
+    expect_shape("a condition of nine values", nine_values, 0, GRADES_EVALUATE_REFUSED_SHAPE);
+    expect_shape("values past the last condition", past_the_last, 0, GRADES_EVALUATE_REFUSED_SHAPE);
+    expect_shape("one grade", one_grade, 0, GRADES_EVALUATE_REFUSED_SHAPE);
+    expect_shape("seventeen grades", seventeen_grades, 0, GRADES_EVALUATE_REFUSED_SHAPE);
+    expect_shape("1536 cells", too_many_cells, 0, GRADES_EVALUATE_REFUSED_SHAPE);
     expect_shape("the first of 1024 cells", most_cells, 0, 0);
     expect_shape("the ninth of 1024 cells", most_cells, 8, 1);
     expect_shape("the last of 1024 cells", most_cells, 1023, 0);
-    expect_shape("past 1024 cells", most_cells, 1024, GRADES_REFUSED_CELL);
+    expect_shape("past 1024 cells", most_cells, 1024, GRADES_EVALUATE_REFUSED_CELL);
 
     memset(network, 0, RECORD);
     network[1] = 15;
     expect("one cell", RECORD, no_conditions, sizeof no_conditions, 1, 0, 15);
-    expect("past one cell", RECORD, no_conditions, sizeof no_conditions, 1, 1, GRADES_REFUSED_CELL);
+    expect("past one cell", RECORD, no_conditions, sizeof no_conditions, 1, 1,
+           GRADES_EVALUATE_REFUSED_CELL);
 }
 
 static void works(void)
 {
     lend_parity();
-    expect("one work byte too few", parity_bytes, square, sizeof square, 6, 0, GRADES_REFUSED_WORK);
-    expect("no work bytes", parity_bytes, square, sizeof square, 0, 0, GRADES_REFUSED_WORK);
-    expect("seventeen bytes, no work bytes", 17, square, sizeof square, 0, 0, GRADES_REFUSED_WORK);
+    expect("one work byte too few", parity_bytes, square, sizeof square, 6, 0,
+           GRADES_EVALUATE_REFUSED_BUFFER);
+    expect("no work bytes", parity_bytes, square, sizeof square, 0, 0,
+           GRADES_EVALUATE_REFUSED_BUFFER);
+    expect("seventeen bytes, no work bytes", 17, square, sizeof square, 0, 0,
+           GRADES_EVALUATE_REFUSED_BUFFER);
 }
 
 static void lengths(void)
@@ -118,26 +120,27 @@ static void lengths(void)
     size_t at;
 
     lend_parity();
-    expect("no records", 0, square, sizeof square, 7, 0, GRADES_REFUSED_NETWORK);
-    expect("no records, no work bytes", 0, square, sizeof square, 0, 0, GRADES_REFUSED_NETWORK);
-    expect("fifteen bytes", 15, square, sizeof square, 0, 0, GRADES_REFUSED_NETWORK);
-    expect("seventeen bytes", 17, square, sizeof square, 1, 0, GRADES_REFUSED_NETWORK);
+    expect("no records", 0, square, sizeof square, 7, 0, GRADES_EVALUATE_REFUSED_NETWORK);
+    expect("no records, no work bytes", 0, square, sizeof square, 0, 0,
+           GRADES_EVALUATE_REFUSED_NETWORK);
+    expect("fifteen bytes", 15, square, sizeof square, 0, 0, GRADES_EVALUATE_REFUSED_NETWORK);
+    expect("seventeen bytes", 17, square, sizeof square, 1, 0, GRADES_EVALUATE_REFUSED_NETWORK);
     expect("one byte too few", parity_bytes - 1, square, sizeof square, 6, 0,
-           GRADES_REFUSED_NETWORK);
+           GRADES_EVALUATE_REFUSED_NETWORK);
 
     /* A constant, and then gates that each name the record before. */
     memset(network, 0, sizeof network);
     network[1] = 1;
-    for (at = 1; at <= MOST_RECORDS; at++) {
+    for (at = 1; at <= GRADES_MAX_RECORDS; at++) {
         uint8_t *record = network + at * RECORD;
         record[0] = 3;
         record[4] = record[6] = (uint8_t)((at - 1) & 255);
         record[5] = record[7] = (uint8_t)((at - 1) >> 8);
     }
-    expect("4096 records", (size_t)MOST_RECORDS * RECORD, square, sizeof square, MOST_RECORDS, 3,
-           1);
-    expect("4097 records", (size_t)(MOST_RECORDS + 1) * RECORD, square, sizeof square,
-           MOST_RECORDS + 1, 3, GRADES_REFUSED_NETWORK);
+    expect("4096 records", (size_t)GRADES_MAX_RECORDS * RECORD, square, sizeof square,
+           GRADES_MAX_RECORDS, 3, 1);
+    expect("4097 records", (size_t)(GRADES_MAX_RECORDS + 1) * RECORD, square, sizeof square,
+           GRADES_MAX_RECORDS + 1, 3, GRADES_EVALUATE_REFUSED_NETWORK);
 }
 
 static void records(void)
@@ -176,7 +179,8 @@ static void records(void)
                 continue;
             sprintf(name, "byte %u of kind %u", (unsigned)byte, (unsigned)kind);
             record[byte] = 1;
-            expect(name, parity_bytes, square, sizeof square, 7, 0, GRADES_REFUSED_NETWORK);
+            expect(name, parity_bytes, square, sizeof square, 7, 0,
+                   GRADES_EVALUATE_REFUSED_NETWORK);
             record[byte] = 0;
         }
     }
@@ -187,27 +191,29 @@ static void records(void)
     expect("a constant with the grade m - 1", RECORD, square, sizeof square, 1, 0, 1);
     network[1] = 2;
     expect("a constant with the grade m", RECORD, square, sizeof square, 1, 0,
-           GRADES_REFUSED_NETWORK);
+           GRADES_EVALUATE_REFUSED_NETWORK);
 }
 
 static void cells(void)
 {
     lend_parity();
-    expect("cell 4 of four", parity_bytes, square, sizeof square, 7, 4, GRADES_REFUSED_CELL);
+    expect("cell 4 of four", parity_bytes, square, sizeof square, 7, 4,
+           GRADES_EVALUATE_REFUSED_CELL);
     expect("the largest cell number", parity_bytes, square, sizeof square, 7, UINT32_MAX,
-           GRADES_REFUSED_CELL);
+           GRADES_EVALUATE_REFUSED_CELL);
 }
 
 /* Of two faults, the one that is tested for first. */
 static void order(void)
 {
     lend_parity();
-    expect("nine shape bytes, no work bytes", parity_bytes, square, 9, 0, 4, GRADES_REFUSED_SHAPE);
+    expect("nine shape bytes, no work bytes", parity_bytes, square, 9, 0, 4,
+           GRADES_EVALUATE_REFUSED_SHAPE);
     network[0] = 4;
     expect("an unknown kind, no work bytes", parity_bytes, square, sizeof square, 0, 4,
-           GRADES_REFUSED_WORK);
+           GRADES_EVALUATE_REFUSED_BUFFER);
     expect("an unknown kind, cell 4", parity_bytes, square, sizeof square, 7, 4,
-           GRADES_REFUSED_NETWORK);
+           GRADES_EVALUATE_REFUSED_NETWORK);
 }
 
 int main(void)

@@ -6,27 +6,9 @@
  */
 #include "check.h"
 
-#define CELLS 4
-
-/* Of E; of the greater and of the lesser of two conditions; limits that no table has. */
-static const uint8_t odd[CELLS] = {0, 1, 1, 0};
-static const uint8_t either[CELLS] = {0, 1, 1, 1};
-static const uint8_t both[CELLS] = {0, 0, 0, 1};
+/* Limits that no table has, and the grades of the second condition alone. */
 static const uint8_t not_grades[CELLS] = {0, 0, 0, 2};
-
-/* The grades of one condition. */
-static const uint8_t of_first[CELLS] = {0, 1, 0, 1};
 static const uint8_t of_second[CELLS] = {0, 0, 1, 1};
-
-static const uint8_t file_of_e[7][RECORD] = {
-    {1, 0, 2},
-    {1, 1, 2},
-    {2, 2},
-    {3, 0, 0, 0, 0, 0, 0, 0, 0, 0},
-    {3, 1, 1, 0, 0, 0, 0, 0, 1, 0},
-    {3, 1, 1, 0, 0, 0, 0, 0, 0, 1},
-    {3, 0, 0, 0, 0, 0, 0, 0, 1, 1},
-};
 
 /* Buffers to write: each is longer than a call asks for. */
 static uint8_t shape[16], lower[16], upper[16], work[128], network[256];
@@ -91,21 +73,21 @@ static void reading(void)
     check_front(name, upper, sizeof upper, odd, CELLS);
 
     check_refused("a file one byte short", read_file(file_of_e, all - 1, 10, CELLS, CELLS),
-                  GRADES_CALL_REFUSED_FILE_LENGTH);
+                  GRADES_REFUSED_FILE_LENGTH);
     check_refused("no file, no buffers", read_file(file_of_e, 0, 0, 0, 0),
-                  GRADES_CALL_REFUSED_FILE_LENGTH);
-    expect_damaged("a record of kind 4", 3, 0, 4, GRADES_CALL_REFUSED_RECORD_BYTES);
+                  GRADES_REFUSED_FILE_LENGTH);
+    expect_damaged("a record of kind 4", 3, 0, 4, GRADES_REFUSED_RECORD_BYTES);
     check_refused("conditions alone", read_file(file_of_e, 2 * RECORD, 10, CELLS, CELLS),
-                  GRADES_CALL_REFUSED_RECORD_ORDER);
-    expect_damaged("a condition of nine values", 1, 2, 9, GRADES_CALL_REFUSED_SHAPE);
-    expect_damaged("an upper grade that is none", 6, 2, 2, GRADES_CALL_REFUSED_LIMITS);
-    expect_damaged("a value that is none", 6, 9, 2, GRADES_CALL_REFUSED_CELL_VALUES);
+                  GRADES_REFUSED_RECORD_ORDER);
+    expect_damaged("a condition of nine values", 1, 2, 9, GRADES_REFUSED_SHAPE);
+    expect_damaged("an upper grade that is none", 6, 2, 2, GRADES_REFUSED_LIMITS);
+    expect_damaged("a value that is none", 6, 9, 2, GRADES_REFUSED_CELL_VALUES);
     check_refused("nine bytes for the shape", read_file(file_of_e, all, 9, CELLS, CELLS),
-                  GRADES_CALL_REFUSED_BUFFER);
+                  GRADES_REFUSED_BUFFER);
     check_refused("three bytes for lower", read_file(file_of_e, all, 10, CELLS - 1, CELLS),
-                  GRADES_CALL_REFUSED_BUFFER);
+                  GRADES_REFUSED_BUFFER);
     check_refused("three bytes for upper", read_file(file_of_e, all, 10, CELLS, CELLS - 1),
-                  GRADES_CALL_REFUSED_BUFFER);
+                  GRADES_REFUSED_BUFFER);
 }
 
 /* Joins: both calls of a gate, the first where g is NULL. */
@@ -155,22 +137,21 @@ static void joining(const struct join *gate)
     for (i = 0; i < 2; i++) {
         const uint8_t *g = blocks[i];
         check_refused(gate->name, join(gate, 9, table, table, 1, 2, g, CELLS),
-                      GRADES_CALL_REFUSED_SHAPE);
+                      GRADES_REFUSED_SHAPE);
         check_refused(gate->name, join(gate, 10, table, table, 1, 2, g, CELLS - 1),
-                      GRADES_CALL_REFUSED_BUFFER);
+                      GRADES_REFUSED_BUFFER);
         check_refused(gate->name, join(gate, 10, table, not_grades, 1, 2, g, CELLS),
-                      GRADES_CALL_REFUSED_LIMITS);
+                      GRADES_REFUSED_LIMITS);
         check_refused(gate->name, join(gate, 10, table, table, 1, 0, g, CELLS),
-                      GRADES_CALL_REFUSED_SETS);
+                      GRADES_REFUSED_SETS);
         check_refused(gate->name, join(gate, 10, table, table, 3, 2, g, CELLS),
-                      GRADES_CALL_REFUSED_SETS);
+                      GRADES_REFUSED_SETS);
         check_refused(gate->name, join(gate, 10, table, table, 1, 4, g, CELLS),
-                      GRADES_CALL_REFUSED_SETS);
-        check_refused(gate->name, join(gate, 10, odd, odd, 1, 2, g, CELLS),
-                      GRADES_CALL_REFUSED_NO_JOIN);
+                      GRADES_REFUSED_SETS);
+        check_refused(gate->name, join(gate, 10, odd, odd, 1, 2, g, CELLS), GRADES_REFUSED_NO_JOIN);
     }
     check_refused(gate->name, join(gate, 10, table, table, 1, 2, of_second, CELLS),
-                  GRADES_CALL_REFUSED_FIRST_BLOCK);
+                  GRADES_REFUSED_FIRST_BLOCK);
 }
 
 /* Compiling, and what the network then is. */
@@ -188,13 +169,10 @@ static void compiling(void)
     const char *name = "compiling";
     uint32_t cell;
 
-    check_refused("nine bytes of shape", compile(9, odd, odd, 64, 112), GRADES_CALL_REFUSED_SHAPE);
-    check_refused("a work byte too few", compile(10, odd, odd, 63, 112),
-                  GRADES_CALL_REFUSED_BUFFER);
-    check_refused("a network byte too few", compile(10, odd, odd, 64, 111),
-                  GRADES_CALL_REFUSED_BUFFER);
-    check_refused("limits in disorder", compile(10, either, odd, 64, 112),
-                  GRADES_CALL_REFUSED_LIMITS);
+    check_refused("nine bytes of shape", compile(9, odd, odd, 64, 112), GRADES_REFUSED_SHAPE);
+    check_refused("a work byte too few", compile(10, odd, odd, 63, 112), GRADES_REFUSED_BUFFER);
+    check_refused("a network byte too few", compile(10, odd, odd, 64, 111), GRADES_REFUSED_BUFFER);
+    check_refused("limits in disorder", compile(10, either, odd, 64, 112), GRADES_REFUSED_LIMITS);
 
     check_answer(name, compile(10, odd, odd, 64, 112), 7);
     check_front(name, network, sizeof network, parity, parity_bytes);
@@ -224,14 +202,14 @@ static void checking(void)
                  1 + 16 * 1 + 1);
 
     check_refused("nine bytes of shape", check_table(parity_bytes, 9, odd, CELLS, 7),
-                  GRADES_CALL_REFUSED_SHAPE);
+                  GRADES_REFUSED_SHAPE);
     check_refused("three limits", check_table(parity_bytes, 10, odd, CELLS - 1, 7),
-                  GRADES_CALL_REFUSED_BUFFER);
+                  GRADES_REFUSED_BUFFER);
     check_refused("a work byte too few", check_table(parity_bytes, 10, odd, CELLS, 6),
-                  GRADES_CALL_REFUSED_BUFFER);
+                  GRADES_REFUSED_BUFFER);
     check_refused("a limit that is no grade", check_table(parity_bytes, 10, not_grades, CELLS, 7),
-                  GRADES_CALL_REFUSED_LIMITS);
-    check_refused("no record", check_table(0, 10, odd, CELLS, 7), GRADES_CALL_REFUSED_NETWORK);
+                  GRADES_REFUSED_LIMITS);
+    check_refused("no record", check_table(0, 10, odd, CELLS, 7), GRADES_REFUSED_NETWORK);
 }
 
 int main(void)

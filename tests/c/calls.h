@@ -1,0 +1,66 @@
+/*
+ * The eight calls, each over a list of its buffers in the order of its
+ * parameters, so that a test can go through calls and buffers alike.
+ */
+#ifndef CALLS_H
+#define CALLS_H
+
+#include "grades.h"
+
+/* A buffer as it is lent: where it starts, and its number of bytes. */
+struct lent {
+    uint8_t *at;
+    size_t bytes;
+};
+
+typedef uint32_t lent_call(const struct lent *lent);
+
+/* What the calls take besides buffers. */
+static uint8_t set_s = 1, set_t = 2;
+static uint32_t cell_number;
+
+#define LENT(i) lent[i].at, lent[i].bytes
+
+static uint32_t read_lent(const struct lent *lent)
+{
+    return grades_read(LENT(0), LENT(1), LENT(2), LENT(3));
+}
+
+static uint32_t join_max_first_lent(const struct lent *lent)
+{
+    return grades_join_max_first(LENT(0), LENT(1), LENT(2), set_s, set_t, LENT(3), LENT(4));
+}
+
+static uint32_t join_min_first_lent(const struct lent *lent)
+{
+    return grades_join_min_first(LENT(0), LENT(1), LENT(2), set_s, set_t, LENT(3), LENT(4));
+}
+
+static uint32_t join_max_second_lent(const struct lent *lent)
+{
+    return grades_join_max_second(LENT(0), LENT(1), LENT(2), set_s, set_t, LENT(3), LENT(4),
+                                  LENT(5));
+}
+
+static uint32_t join_min_second_lent(const struct lent *lent)
+{
+    return grades_join_min_second(LENT(0), LENT(1), LENT(2), set_s, set_t, LENT(3), LENT(4),
+                                  LENT(5));
+}
+
+static uint32_t compile_lent(const struct lent *lent)
+{
+    return grades_compile(LENT(0), LENT(1), LENT(2), LENT(3), LENT(4));
+}
+
+static uint32_t check_lent(const struct lent *lent)
+{
+    return grades_check(LENT(0), LENT(1), LENT(2), LENT(3), LENT(4));
+}
+
+static uint32_t evaluate_lent(const struct lent *lent)
+{
+    return grades_evaluate(LENT(0), LENT(1), LENT(2), cell_number);
+}
+
+#endif
