@@ -1,0 +1,256 @@
+/*
+ * Measures the stack that each call takes, and holds it to the header. A call
+ * runs on a stack of its own that was filled with one byte; the lowest byte
+ * that has changed shows how deep it went.
+ */
+#define _DEFAULT_SOURCE
+#include "calls.h"
+#include "tables.h"
+
+#include <ucontext.h>
+
+/* The calls, and the most that each has taken so far. */
+static struct {
+    const char *name;
+    lent_call *call;
+    size_t bound;
+    size_t most;
+} calls[] = {
+    {"read", read_lent, GRADES_READ_STACK_BYTES, 0},
+    {"join_max_first", join_max_first_lent, GRADES_JOIN_STACK_BYTES, 0},
+    {"join_max_second", join_max_second_lent, GRADES_JOIN_STACK_BYTES, 0},
+    {"join_min_first", join_min_first_lent, GRADES_JOIN_STACK_BYTES, 0},
+    {"join_min_second", join_min_second_lent, GRADES_JOIN_STACK_BYTES, 0},
+    {"compile", compile_lent, GRADES_COMPILE_STACK_BYTES, 0},
+    {"check", check_lent, GRADES_RUN_STACK_BYTES, 0},
+    {"evaluate", evaluate_lent, GRADES_RUN_STACK_BYTES, 0},
+};
+enum { READ, JOIN_MAX, JOIN_MIN = JOIN_MAX + 2, COMPILE = JOIN_MIN + 2, CHECK, EVALUATE, CALLS };
+
+/* A call that changes the lowest quarter of the stack may have gone past it. */
+#define SPARE 16384
+static uint8_t stack[4 * SPARE];
+static ucontext_t caller, callee;
+
+/* What runs on the stack, its answer, and the frame that it was called from. */
+static lent_call *chosen;
+static const struct lent *chosen_lent;
+static uint32_t answer;
+static const uint8_t *frame;
+
+static void run(void)
+{
+    frame = __builtin_frame_address(0);
+    answer = chosen(chosen_lent);
+}
+
+/* The bytes from the frame of the caller down to the lowest that a call changed:
+ * its arguments, its return address, and all that lies below. */
+static size_t taken(lent_call *call, const struct lent *lent)
+{
+    const uint8_t *lowest = stack;
+
+    chosen = call;
+    chosen_lent = lent;
+    memset(stack, FILL, sizeof stack);
+    getcontext(&callee);
+    callee.uc_stack.ss_sp = stack;
+    callee.uc_stack.ss_size = sizeof stack;
+    callee.uc_link = &caller;
+    makecontext(&callee, run, 0);
+    swapcontext(&caller, &callee);
+    check(all_filled(stack, stack + SPARE), "the stack", "too small for the call");
+    while (*lowest == FILL)
+        lowest++;
+    return (size_t)(frame - lowest);
+}
+
+static uint32_t take_1000(const struct lent *lent)
+{
+    volatile uint8_t bytes[1000];
+    size_t i;
+
+    (void)lent;
+    for (i = 0; i < sizeof bytes; i++)
+        bytes[i] = 0;
+    return bytes[0];
+}
+
+/* Measures a call, and gives its answer. It runs once before, since the loader
+ * takes stack of its own when it binds memset and memcpy. */
+static uint32_t measure(size_t i, const struct lent *lent)
+{
+    size_t bytes;
+
+    calls[i].call(lent);
+    bytes = taken(calls[i].call, lent);
+    check(bytes < calls[i].bound, calls[i].name, "more stack than the header says");
+    if (calls[i].most < bytes)
+        calls[i].most = bytes;
+    return answer;
+}
+
+/* Deep ways through the calls. */
+
+static uint8_t work[GRADES_COMPILE_WORK_BYTES(MOST_CELLS)];
+static uint8_t network[GRADES_MAX_RECORDS * RECORD];
+static uint8_t read_shape[GRADES_SHAPE_BYTES];
+static uint8_t first_lower[MOST_CELLS], first_upper[MOST_CELLS];
+static uint8_t second_lower[MOST_CELLS], second_upper[MOST_CELLS];
+
+#define WHOLE(buffer) buffer, sizeof buffer
+
+static void reading(void)
+{
+    struct lent lent[] = {
+        {WHOLE(file)}, {WHOLE(read_shape)}, {WHOLE(first_lower)}, {WHOLE(first_upper)}};
+
+    lent[0].bytes = make_file();
+    check_answer("read", measure(READ, lent), 0);
+    lent[1].bytes = 0;
+    check_answer("read, no shape", measure(READ, lent), GRADES_REFUSED_BUFFER);
+}
+
+/* Both calls of a gate, for several sets; g is the first block's lower limits.
+ * Gives the number of joins that exist. */
+static unsigned joining(size_t gate)
+{
+    static const uint8_t sets[][2] = {{1, 2}, {2, 5}, {3, 12}, {0x0f, 0xf0}, {0xaa, 0x55}};
+    struct lent first[] = {
+        {WHOLE(shape)}, {WHOLE(lower)}, {WHOLE(upper)}, {WHOLE(first_lower)}, {WHOLE(first_upper)}};
+    struct lent second[] = {{WHOLE(shape)},       {WHOLE(lower)},        {WHOLE(upper)},
+                            {WHOLE(first_lower)}, {WHOLE(second_lower)}, {WHOLE(second_upper)}};
+    unsigned joins = 0;
+    size_t i;
+
+    for (i = 0; i < sizeof sets / sizeof sets[0]; i++) {
+        uint32_t wanted;
+        set_s = sets[i][0];
+        set_t = sets[i][1];
+        wanted = measure(gate, first);
+        check_answer("the second block", measure(gate + 1, second), wanted);
+        joins += wanted == 0;
+    }
+    return joins;
+}
+
+/* A network against the table's limits, and at the last cell. */
+static void running(size_t network_bytes)
+{
+    struct lent table[] = {
+        {WHOLE(network)}, {WHOLE(shape)}, {WHOLE(lower)}, {WHOLE(upper)}, {WHOLE(work)}};
+    struct lent cell[] = {{WHOLE(network)}, {WHOLE(shape)}, {WHOLE(work)}};
+    uint32_t grade;
+
+    table[0].bytes = cell[0].bytes = network_bytes;
+    check_answer("check", measure(CHECK, table), 0);
+    cell_number = cells - 1;
+    grade = measure(EVALUATE, cell);
+    check(lower[cell_number] <= grade && grade <= upper[cell_number], "evaluate",
+          "outside the limits");
+}
+
+/* The table that was made, and then its network. Gives the number of records. */
+static uint32_t compiling(void)
+{
+    struct lent lent[] = {
+        {WHOLE(shape)}, {WHOLE(lower)}, {WHOLE(upper)}, {WHOLE(work)}, {WHOLE(network)}};
+    uint32_t records = measure(COMPILE, lent);
+
+    running((size_t)records * RECORD);
+    return records;
+}
+
+static void parities(void)
+{
+    make_shape(twos, 2);
+    make_parity();
+    reading();
+    check_answer("parity of twos", compiling(), 763);
+    check_answer("parity of twos", joining(JOIN_MAX) + joining(JOIN_MIN), 0);
+    make_shape(eight_and_twos, GRADES_MAX_GRADES);
+    make_parity();
+    reading();
+    check_answer("parity of 1024 cells", compiling(), 3055);
+}
+
+/* The greatest and the least of the values of 1024 cells: every join by one gate exists. */
+static void extremes(void)
+{
+    uint32_t cell;
+    size_t i;
+
+    make_shape(eight_and_twos, 8);
+    for (cell = 0; cell < cells; cell++) {
+        for (i = 0, lower[cell] = 0; i < shape[0]; i++)
+            if (lower[cell] < value_at(cell, i))
+                lower[cell] = value_at(cell, i);
+        upper[cell] = lower[cell];
+    }
+    check_answer("the greatest", compiling(), 15);
+    check_answer("the greatest by max", joining(JOIN_MAX), 5);
+    joining(JOIN_MIN);
+    for (cell = 0; cell < cells; cell++)
+        lower[cell] = upper[cell] = (uint8_t)(7 - lower[cell]);
+    check_answer("the least", compiling(), 15);
+    check_answer("the least by min", joining(JOIN_MIN), 5);
+    joining(JOIN_MAX);
+}
+
+/* Tables that a seed decides, in which stages drop, join and split at all depths. */
+static void mixtures(void)
+{
+    uint32_t seed = 1, cell;
+    unsigned table;
+
+    for (table = 0; table < 64; table++) {
+        uint8_t m = (uint8_t)(2 + table % 15);
+        make_shape(table % 4 == 0 ? eight_and_twos : twos, m);
+        for (cell = 0; cell < cells; cell++) {
+            seed = seed * 1664525u + 1013904223u;
+            lower[cell] = (uint8_t)((seed >> 24) % m);
+            upper[cell] = lower[cell];
+            if ((seed >> 16) % 8 < table % 8)
+                upper[cell] = (uint8_t)(m - 1);
+        }
+        reading();
+        compiling();
+        joining(JOIN_MAX);
+        joining(JOIN_MIN);
+    }
+}
+
+/* The longest network: a constant, and gates that each name the record before. */
+static void longest(void)
+{
+    size_t at;
+
+    make_shape(eight_and_twos, 2);
+    memset(lower, 0, sizeof lower);
+    memset(upper, 1, sizeof upper);
+    memset(network, 0, sizeof network);
+    network[1] = 1;
+    for (at = 1; at < GRADES_MAX_RECORDS; at++) {
+        uint8_t *record = network + at * RECORD;
+        record[0] = 2 + (at & 1);
+        record[4] = record[6] = (uint8_t)((at - 1) & 255);
+        record[5] = record[7] = (uint8_t)((at - 1) >> 8);
+    }
+    running(sizeof network);
+}
+
+int main(void)
+{
+    size_t bytes = taken(take_1000, NULL), i;
+
+    check(bytes >= 1000 && bytes < 1100, "a call that takes 1000 bytes", "measured otherwise");
+    parities();
+    extremes();
+    mixtures();
+    longest();
+    printf("c: stack:");
+    for (i = 0; i < CALLS; i++)
+        printf(" %s %u%s", calls[i].name, (unsigned)calls[i].most,
+               i + 1 < CALLS ? "," : " bytes\n");
+    return checked("stack");
+}
