@@ -23,8 +23,9 @@ static struct {
 } buffers[MOST_BUFFERS];
 static size_t count;
 
-/* The memory of the buffers, each between two guards. */
+/* Their memory, each between two guards, and how they are lent. */
 static uint8_t memory[MOST_BUFFERS][GUARD + MOST_BYTES + GUARD];
+static struct lent lent[MOST_BUFFERS];
 
 /* A page that may be neither read nor written. */
 static uint8_t *forbidden;
@@ -45,7 +46,7 @@ static void lend_table(const uint8_t *limits)
     lend("upper", limits, CELLS, GRADES_REFUSED_BUFFER);
 }
 
-static void prepare(struct lent *lent)
+static void prepare(void)
 {
     size_t i;
 
@@ -62,11 +63,10 @@ static void prepare(struct lent *lent)
 static void expect_empty(const char *call_name, lent_call *call, size_t i, uint8_t *place)
 {
     static uint8_t before[sizeof memory];
-    struct lent lent[MOST_BUFFERS];
     char name[64];
 
     sprintf(name, "%s, %s empty", call_name, buffers[i].name);
-    prepare(lent);
+    prepare();
     lent[i].bytes = 0;
     if (place != NULL)
         lent[i].at = place;
@@ -78,10 +78,9 @@ static void expect_empty(const char *call_name, lent_call *call, size_t i, uint8
 /* A call with none of the buffers empty, and then with each of them. */
 static void expect_each(const char *name, lent_call *call, uint32_t accepted)
 {
-    struct lent lent[MOST_BUFFERS];
     size_t i;
 
-    prepare(lent);
+    prepare();
     check_answer(name, call(lent), accepted);
     for (i = 0; i < count; i++) {
         const uint8_t *end = lent[i].at + lent[i].bytes;

@@ -157,7 +157,7 @@ static void compiling(void)
 static void outside(void)
 {
     const uint8_t grade = GRADES_MAX_GRADES - 1;
-    uint32_t cell, answer;
+    uint32_t cell;
 
     make_shape(eights, GRADES_MAX_GRADES);
     memset(network, 0, RECORD);
@@ -165,6 +165,7 @@ static void outside(void)
     memset(lower, 0, sizeof lower);
     memset(upper, grade, sizeof upper);
     for (cell = 0; cell < MOST_CELLS; cell++) {
+        uint32_t answer;
         upper[cell] = (uint8_t)(grade - 1);
         answer = check_network(RECORD, GRADES_RUN_WORK_BYTES(RECORD));
         check(answer != 0 && answer < GRADES_REFUSED, "outside", "not an answer for a cell");
