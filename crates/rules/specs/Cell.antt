@@ -1,4 +1,5 @@
 -- 01, Tables and cells: conditions, cells, sets of conditions, tables.
+-- In the field: a condition is a multi-valued variable, a cell a minterm, a table of one grade for each cell a multi-valued function.
 -- A shape is the list of its cardinalities by place, `ks`. A place with cardinality 1 has no condition: it adds nothing to a cell's number.
 -- So a stage that has lost a condition keeps every other condition at its place, and a condition has one number everywhere.
 use Prim.Native.Nat.{ℕ, zero, suc, _+_, _*_, _/_, _%_, _<_, min, max}
@@ -97,7 +98,7 @@ agreeOutside (k ∷ ks) t c d = (eqb (t % 2) 1 || eqb (c % k) (d % k)) && agreeO
 abbrev pub moved : List ℕ → List ℕ → List ℕ → List ℕ
 moved a b f = tabulate (cells b) (λ c. at f (remap b a c))
 
--- 01, Joins: a function that does not depend on the set t
+-- 01, Joins: a function that does not depend on the set t. In the field: independence of a set of variables
 abbrev pub Blind : List ℕ → ℕ → (ℕ → ℕ) → Type 0
 Blind ks t f = (c d : ℕ) → c < cells ks → d < cells ks → T (agreeOutside ks t c d) → f c ≡ f d
 
@@ -106,7 +107,8 @@ abbrev pub overTo : (ℕ → ℕ → ℕ) → (ℕ → Bool) → (ℕ → ℕ) �
 overTo op p f a zero = a
 overTo op p f a (suc d) = op (overTo op p f a d) (pick (p d) (f d) a)
 
--- 01, Joins, "over T": at each cell the operation over all cells with the same values outside t
+-- 01, Joins, "over T": at each cell the operation over all cells with the same values outside t.
+-- In the field: abstraction (quantification) by max or by min over the variables of t
 abbrev pub over : (ℕ → ℕ → ℕ) → List ℕ → ℕ → List ℕ → List ℕ
 over op ks t f = tabulate (cells ks) (λ c. overTo op (agreeOutside ks t c) (at f) (at f c) (cells ks))
 

@@ -1,4 +1,5 @@
--- 01, Joins.
+-- 01, Joins. In the field: strong bi-decomposition of an interval of functions by max or by min. The sets s and t are the blocks' own
+-- variables, s the first block's and t the second's; the variables in neither are common to both blocks.
 use Prim.Native.Nat.{ℕ, _-_, max}
 use mathlib.Core.Bool.{Bool, not, _&&_, _||_}
 use mathlib.Core.List.{List}
@@ -39,7 +40,7 @@ module _ (ks : List ℕ) (s t : ℕ) (l u : List ℕ) where
 abbrev pub complement : List ℕ → ℕ → List ℕ → List ℕ
 complement ks m t = tabulate (cells ks) (λ c. m - 1 - at t c)
 
--- the exchange of 01's min join; to change back is the same
+-- the exchange of 01's min join; to change back is the same. In the field: the duality of min and max
 abbrev pub exchange : List ℕ → ℕ → Limits → Limits
 exchange ks m l = record { lower = complement ks m (l .upper); upper = complement ks m (l .lower) }
 
@@ -52,7 +53,7 @@ abbrev pub exchangeBlockFor : Gate → List ℕ → ℕ → List ℕ → List �
 exchangeBlockFor Max ks m g = g
 exchangeBlockFor Min ks m g = complement ks m g
 
--- whether the join by a gate exists
+-- whether the join by a gate exists. In the field: the test for a strong bi-decomposition with s and t as the blocks' own variables
 abbrev pub joinExists : Gate → List ℕ → ℕ → ℕ → ℕ → Limits → Bool
 joinExists op ks m s t l = let x = exchangeFor op ks m l in maxExists ks s t (x .lower) (x .upper)
 

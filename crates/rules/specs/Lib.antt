@@ -1,4 +1,5 @@
--- The rules of document 01 as definitions. A reader holds each against the section of 01 that its comment names.
+-- The rules of document 01 as definitions. A reader holds each against the section of 01 that its comment names; docs/RULES.md and
+-- docs/FORMAT.md give the same rules in words. Where a definition is a term of the field, its comment says which one.
 pub mod Refusal
 pub mod Verdict
 pub mod Bytes

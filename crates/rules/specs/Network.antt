@@ -9,7 +9,8 @@ use Rattle.rules.specs.declared.Gate.the-variants.{Min, Max}
 use Rattle.rules.specs.Bytes.{at, tabulate, all, recordAt, word}
 use Rattle.rules.specs.Cell.{card, present, value}
 
--- a constant's grade; a literal's condition and its grade for each value; a gate's left and right record
+-- a constant's grade; a literal's condition and its grade for each value; a gate's left and right record.
+-- In the field: a literal is a multi-valued literal, any function of one variable; the gates have two inputs each
 pub data Record : Type 0 where
   constant : ℕ → Record
   literal : ℕ → List ℕ → Record

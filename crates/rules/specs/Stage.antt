@@ -34,6 +34,7 @@ merged i x =
 abbrev pub fits : List ℕ → Limits → Bool
 fits ks l = all (cells ks) (λ c. leb (at (l .lower) c) (at (l .upper) c))
 
+-- condition i dropped, if it is there and can be. In the field: removal of an inessential variable
 abbrev pub dropOne : ℕ → Stage → Stage
 dropOne i x =
     let dropped = outside (singleton i) x (merged i x) in
@@ -90,6 +91,7 @@ module _ (is : ℕ → Bool) (joins : ℕ → ℕ → Bool) where
   grow [] g = g
   grow (i ∷ js) g = grow js (addCondition i g)
 
+  -- the first pair, with every other condition that can be added. In the field: variable grouping
   abbrev pub grouping : List ℕ → Grouping
   grouping js = grow js (firstPair js)
 
@@ -129,7 +131,8 @@ firstStage m op s t x = outside t x (firstLimits op (x .ks) m s t (x .limits))
 abbrev pub secondStage : ℕ → Gate → ℕ → ℕ → Stage → List ℕ → Stage
 secondStage m op s t x g = outside s x (secondLimits op (x .ks) m s t (x .limits) g)
 
--- Step 6. The stage that a split starts for value k. No condition is below the one split on, so its cells with value k are k + card × c
+-- Step 6. The stage that a split starts for value k. No condition is below the one split on, so its cells with value k are k + card × c.
+-- In the field: the cofactor at value k; a split is an expansion by cofactors
 abbrev pub cofactorStage : ℕ → Stage → Stage
 cofactorStage k x =
     let i = lowest (x .ks) in

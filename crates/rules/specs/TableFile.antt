@@ -86,7 +86,7 @@ abbrev pub listedOver : List ℕ → List ℕ → ℕ → ℕ → ℕ → List �
 listedOver file ks j k zero t = t
 listedOver file ks j k (suc n) t = listedOver file ks j (suc k) n (laidOver (recordAt file k) ks j t)
 
--- the limits of a cell that is not listed
+-- the limits of a cell that is not listed: a don't-care
 abbrev pub unlistedLower : Seen → ℕ
 unlistedLower s = 0
 
