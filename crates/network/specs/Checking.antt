@@ -31,7 +31,8 @@ abbrev pub EveryWithin : Shape → List ℕ → List ℕ → List ℕ → Type 0
 EveryWithin shape net lower upper =
     (c : ℕ) → c < cells (placesOf shape) → (at lower c ≤ evaluate (placesOf shape) net c) × (evaluate (placesOf shape) net c ≤ at upper c)
 
--- the answer by the rows of document 01; in plain words, `Within` exactly when the call is accepted, its verdict having number 0, and every cell is within; the work buffer as for `evaluate`
+-- the answer by the rows of document 01; in plain words, `Within` exactly when the call is accepted, its verdict having number 0, and every
+-- cell is within; the work buffer as for `evaluate`
 pub record Checked (shape : Shape) (net lower upper work after : List ℕ) (answer : CheckAnswer) : Type 0 where
   pub answers : checkVerdict answer ≡ checkRows shape net lower upper work
   pub within-means : answer ≡ Within → (verdictNumber (checkRows shape net lower upper work) ≡ 0) × EveryWithin shape net lower upper

@@ -24,8 +24,8 @@ module _ (net bytes lower upper work : List ℕ) where
   abbrev verdict : Verdict CheckResult
   verdict = lent bytes (λ shape. checkRows shape net lower upper work)
 
-  -- the answer by the rows of document 01; in plain words, 0 exactly when the call is accepted and every cell is within, and what else is no refusal tells the first cell
-  -- outside and its grade apart; the work buffer as for `grades_evaluate`
+  -- the answer by the rows of document 01; in plain words, 0 exactly when the call is accepted and every cell is within, and what else is
+  -- no refusal tells the first cell outside and its grade apart; the work buffer as for `grades_evaluate`
   pub record Checks (r : ℕ) (after : List ℕ) : Type 0 where
     pub answer : r ≡ callNumber verdict resultNumber
     pub within-means : r ≡ 0 → (verdictNumber verdict ≡ 0) × EveryWithin (lentShape bytes) net lower upper

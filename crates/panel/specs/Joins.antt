@@ -28,7 +28,8 @@ module _ (gate : Gate) (bytes lower upper : List ℕ) (s t : ℕ) where
   abbrev pub Joins : (ℕ → ℕ) → (ℕ → ℕ) → Type 0
   Joins g h = Pair gate ks m s t (limitsOf lower upper) g h
 
-  -- both calls, by their rows and the lengths of the buffers lent: the answer and every byte of the two output buffers; and demand 2, refusal 8 exactly when there are no two functions
+  -- both calls, by their rows and the lengths of the buffers lent: the answer and every byte of the two output buffers; and demand 2,
+  -- refusal 8 exactly when there are no two functions
   pub record Joined (rows : Shape → Verdict Limits) (lengths toLower toUpper : List ℕ) (r : ℕ) (toLower′ toUpper′ : List ℕ) : Type 0 where
     pub answer : r ≡ callNumber (lent bytes rows) (λ l. 0)
     pub lower-after : toLower′ ≡ lowerAfter (lent bytes rows) (cells ks) toLower

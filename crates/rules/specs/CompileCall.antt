@@ -17,7 +17,8 @@ use Rattle.rules.specs.Demands.{compiledRecords}
 abbrev pub mostRecords : ℕ → ℕ
 mostRecords c = pick (eqb c 1) 1 (3 * c - 5)
 
--- row 10, by lengths: a byte for each of c cells in both limit buffers, sixteen for each in the work buffer, sixteen for each of the most records in the network buffer
+-- row 10, by lengths: a byte for each of c cells in both limit buffers, sixteen for each in the work buffer, sixteen for each of the most
+-- records in the network buffer
 abbrev pub compileRoom : ℕ → ℕ → ℕ → ℕ → ℕ → Bool
 compileRoom c lower upper work network = roomy c (lower ∷ upper ∷ []) && (leb (16 * c) work && leb (16 * mostRecords c) network)
 
