@@ -1,5 +1,6 @@
 //! The calls that are measured.
 
+use crate::report::grouped;
 use calls::plain::Plain;
 use calls::tables::OwnedTable;
 use calls::{Calls, Gate, Limits, Sets};
@@ -110,7 +111,7 @@ fn evaluate(records: usize) -> Case {
         let mut work = vec![0; records];
         Box::new(move |calls| calls.evaluate(&network, &shape, &mut work, 777))
     };
-    Case { name: format!("evaluate {records} records"), growth: None, prepare: Box::new(prepare) }
+    Case { name: format!("evaluate {} records", grouped(records as f64)), growth: None, prepare: Box::new(prepare) }
 }
 
 fn check(name: &str, table: OwnedTable) -> Case {

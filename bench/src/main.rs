@@ -1,6 +1,6 @@
 //! Measures the calls of the proved library beside the same calls in plain safe Rust.
 //!
-//!     bench PLOT                      the table on standard output, the plot to a file
+//!     bench FOLDER                    writes BENCHMARKS.md and compile-cost.svg there, and prints the table
 //!     bench once NAME CASE TIMES      makes one call so many times; for counting its instructions
 //!
 //! Instructions are counted by callgrind, in two runs of which one makes twice as many calls: the difference is the
@@ -8,9 +8,12 @@
 
 mod cases;
 mod plot;
+mod report;
 
 use calls::{Calls, plain::Plain};
 use cases::{Case, all};
+use report::{Report, Row};
+use std::path::Path;
 use std::process::{Command, ExitCode};
 use std::time::{Duration, Instant};
 
@@ -59,79 +62,72 @@ fn instructions(name: &str, case: usize) -> f64 {
     (counted(2 * TIMES) - counted(TIMES)) as f64 / TIMES as f64
 }
 
-/// The least time of one call with each implementation, measured in turns.
+/// The least time of one call with each implementation, measured in turns. A turn makes the calls in batches that are
+/// long for the clock, and too short to be interrupted often.
 fn times(case: &Case, implementations: &[Named]) -> Vec<Duration> {
     const TURNS: usize = 7;
     const TURN: Duration = Duration::from_millis(20);
+    const BATCH: Duration = Duration::from_micros(50);
     let mut calls: Vec<_> = implementations.iter().map(|_| (case.prepare)()).collect();
+    let mut batches = vec![1; implementations.len()];
     let mut best = vec![Duration::MAX; implementations.len()];
     for _ in 0..TURNS {
         for (number, (_, implementation)) in implementations.iter().enumerate() {
-            let start = Instant::now();
-            let mut made = 0;
-            while made == 0 || start.elapsed() < TURN {
-                std::hint::black_box(calls[number](&**implementation));
-                made += 1;
+            let turn = Instant::now();
+            while turn.elapsed() < TURN {
+                let batch = batches[number];
+                let start = Instant::now();
+                for _ in 0..batch {
+                    std::hint::black_box(calls[number](&**implementation));
+                }
+                let taken = start.elapsed();
+                if taken < BATCH {
+                    batches[number] *= 2;
+                } else {
+                    best[number] = best[number].min(taken / batch);
+                }
             }
-            best[number] = best[number].min(start.elapsed() / made);
         }
     }
     best
 }
 
-fn ratio(figures: &[f64]) -> String {
-    if let [library, plain] = figures { format!(" {:.2} |", library / plain) } else { String::new() }
-}
-
-fn grouped(count: f64) -> String {
-    let digits = format!("{count:.0}");
-    let groups: Vec<&str> =
-        digits.as_bytes().rchunks(3).rev().map(|group| std::str::from_utf8(group).unwrap_or("")).collect();
-    groups.join(",")
-}
-
-/// Prints the table; the lines of the plot.
-fn measure() -> Vec<plot::Line> {
+/// Measures every case, and prints each as it is done.
+fn measure() -> Report {
     let implementations = implementations();
-    let names: Vec<&str> = implementations.iter().map(|(name, _)| *name).collect();
-    let ratio_heading = if names.len() == 2 { " ratio |" } else { "" };
-    let heading =
-        |unit: &str| names.iter().map(|name| format!(" {name}, {unit} |")).collect::<String>() + ratio_heading;
-    let headings = format!("| call |{}{}", heading("instructions"), heading("µs"));
-    println!("{headings}\n|---|{}", "---:|".repeat(headings.matches('|').count() - 2));
-    let mut lines: Vec<plot::Line> = vec![];
-    for (number, case) in all().iter().enumerate() {
+    let mut report = Report::new(implementations.iter().map(|(name, _)| *name).collect());
+    print!("{}", report.heading());
+    for (number, case) in all().into_iter().enumerate() {
         let answers: Vec<u32> = implementations.iter().map(|(_, calls)| (case.prepare)()(&**calls)).collect();
         assert!(answers.iter().all(|answer| *answer == answers[0]), "{}: answers {answers:?}", case.name);
-        let counts: Vec<f64> = names.iter().map(|name| instructions(name, number)).collect();
-        let times: Vec<f64> = times(case, &implementations).iter().map(|time| time.as_nanos() as f64 / 1e3).collect();
-        let counts_shown: String = counts.iter().map(|count| format!(" {} |", grouped(*count))).collect();
-        let times_shown: String = times.iter().map(|time| format!(" {time:.1} |")).collect();
-        println!("| {} |{counts_shown}{}{times_shown}{}", case.name, ratio(&counts), ratio(&times));
-        let Some((line, cells)) = case.growth else { continue };
-        for (name, count) in names.iter().zip(&counts) {
-            let name = format!("{line}: {name}");
-            let at = lines.iter().position(|line| line.name == name).unwrap_or_else(|| {
-                lines.push(plot::Line { dashed: name.ends_with("plain"), name, points: vec![] });
-                lines.len() - 1
-            });
-            lines[at].points.push((cells as f64, *count));
-        }
+        let counts = report.names.iter().map(|name| instructions(name, number)).collect();
+        let times = times(&case, &implementations).iter().map(|time| time.as_nanos() as f64 / 1e3).collect();
+        let row = Row { name: case.name, growth: case.growth, counts, times };
+        print!("{}", report.shown(&row));
+        report.rows.push(row);
     }
-    lines
+    print!("\n{}", report.worst());
+    report
+}
+
+fn write(folder: &Path, report: &Report) -> std::io::Result<()> {
+    std::fs::write(folder.join("BENCHMARKS.md"), report.document())?;
+    std::fs::write(folder.join("compile-cost.svg"), plot::draw(&report.lines()))
 }
 
 fn main() -> ExitCode {
     let words: Vec<String> = std::env::args().skip(1).collect();
     let words: Vec<&str> = words.iter().map(String::as_str).collect();
     let done = match words[..] {
-        ["once", name, case, times] => once(name, case, times),
-        [file] => std::fs::write(file, plot::draw(&measure())).ok(),
-        _ => None,
+        ["once", name, case, times] => once(name, case, times).ok_or("no such call".into()),
+        [folder] => write(Path::new(folder), &measure()).map_err(|error| format!("{folder}: {error}")),
+        _ => Err("bench FOLDER\nbench once NAME CASE TIMES".into()),
     };
-    if done.is_none() {
-        eprintln!("bench PLOT\nbench once NAME CASE TIMES");
-        return ExitCode::FAILURE;
+    match done {
+        Ok(()) => ExitCode::SUCCESS,
+        Err(fault) => {
+            eprintln!("{fault}");
+            ExitCode::FAILURE
+        }
     }
-    ExitCode::SUCCESS
 }

@@ -1,11 +1,12 @@
 //! Runs the calls of the library beside the oracle.
 //!
-//!     compare [vectors] [--against plain|library] [--seed N] [--seconds S | --hours H]
+//!     compare [vectors | program] [--against plain|library] [--seed N] [--seconds S | --hours H]
 //!
 //! One run is every table of the tiny shapes and what the seed decides. With a time, it goes on with new seeds. With
-//! `vectors`, it is the published tables instead.
+//! `vectors`, it is the published tables instead; with `program`, what the program `grades` prints.
 
 mod lent;
+mod program;
 mod random;
 mod rounds;
 mod session;
@@ -17,11 +18,19 @@ use session::{Outcome, Session};
 use std::process::ExitCode;
 use std::time::{Duration, Instant};
 
-const USAGE: &str = "compare [vectors] [--against plain|library] [--seed N] [--seconds S | --hours H]";
+const USAGE: &str = "compare [vectors | program] [--against plain|library] [--seed N] [--seconds S | --hours H]";
 const DEFAULT_SEED: u64 = 1;
 
+/// What a run looks at.
+#[derive(Clone, Copy)]
+enum Part {
+    Calls,
+    Vectors,
+    Program,
+}
+
 struct Options {
-    vectors: bool,
+    part: Part,
     against: Box<dyn Calls>,
     seed: u64,
     time: Duration,
@@ -38,11 +47,12 @@ fn default_calls() -> Box<dyn Calls> {
 }
 
 fn options() -> Option<Options> {
-    let mut options = Options { vectors: false, against: default_calls(), seed: DEFAULT_SEED, time: Duration::ZERO };
+    let mut options = Options { part: Part::Calls, against: default_calls(), seed: DEFAULT_SEED, time: Duration::ZERO };
     let mut words = std::env::args().skip(1);
     while let Some(word) = words.next() {
-        if word == "vectors" {
-            options.vectors = true;
+        let part = [("vectors", Part::Vectors), ("program", Part::Program)].into_iter().find(|(name, _)| *name == word);
+        if let Some((_, part)) = part {
+            options.part = part;
             continue;
         }
         let value = words.next()?;
@@ -75,6 +85,14 @@ fn published(calls: &dyn Calls) -> bool {
     outcome.is_ok()
 }
 
+/// Runs of the program on the files that a seed decides; whether it printed what it should.
+fn program(seed: u64) -> bool {
+    let mut program = program::Program::new(seed);
+    let outcome = program.run();
+    conclude(&outcome, &format!("program: {} files, seed {seed}", program.files));
+    outcome.is_ok()
+}
+
 /// A session on the tables that a seed decides; whether all was equal and each refusal was seen.
 fn compare(calls: &dyn Calls, seed: u64, with_tiny: bool) -> bool {
     let mut session = Session::new(calls, seed);
@@ -91,22 +109,24 @@ fn compare(calls: &dyn Calls, seed: u64, with_tiny: bool) -> bool {
 }
 
 fn main() -> ExitCode {
-    let Some(Options { vectors, against, seed, time }) = options() else {
+    let Some(Options { part, against, seed: first, time }) = options() else {
         eprintln!("{USAGE}");
         return ExitCode::from(2);
     };
-    if vectors {
-        return exit_code(published(&*against));
-    }
     let start = Instant::now();
-    let mut seed = seed;
-    let mut equal = compare(&*against, seed, true);
-    while equal && start.elapsed() < time {
+    let mut seed = first;
+    loop {
+        let equal = match part {
+            // The tables of the tiny shapes are the same for every seed.
+            Part::Calls => compare(&*against, seed, seed == first),
+            Part::Program => program(seed),
+            Part::Vectors => return exit_code(published(&*against)),
+        };
+        if !equal || start.elapsed() >= time {
+            return exit_code(equal);
+        }
         seed = seed.wrapping_add(1);
-        // The tables of the tiny shapes are the same for every seed.
-        equal = compare(&*against, seed, false);
     }
-    exit_code(equal)
 }
 
 fn exit_code(equal: bool) -> ExitCode {

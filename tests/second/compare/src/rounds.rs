@@ -2,7 +2,7 @@
 
 use crate::random::Random;
 use crate::session::{Join, Outcome, Session};
-use crate::tables::{all_tables, cardinality_lists, some_table};
+use crate::tables::{all_tables, cardinality_lists, damage, some_table};
 use calls::Gate;
 use calls::tables::OwnedTable;
 
@@ -53,22 +53,6 @@ fn every_shape(session: &mut Session) -> Outcome<()> {
         }
     }
     Ok(())
-}
-
-/// A file with a few bytes changed, or with two records exchanged.
-fn damage(sound: &[u8], random: &mut Random) -> Vec<u8> {
-    let mut file = sound.to_vec();
-    if random.once_in(4) {
-        let mut records: Vec<&[u8]> = sound.chunks(16).collect();
-        let (one, two) = (random.below(records.len()), random.below(records.len()));
-        records.swap(one, two);
-        return records.concat();
-    }
-    for _ in 0..=random.below(3) {
-        let at = random.below(file.len());
-        file[at] = random.byte() % 20;
-    }
-    file
 }
 
 /// Its file, its network and its joins, in buffers that are now and then longer than asked.

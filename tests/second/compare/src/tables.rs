@@ -1,4 +1,4 @@
-//! Shapes and tables to compare on.
+//! Shapes, tables and damaged files to compare on.
 
 use crate::random::Random;
 use calls::tables::OwnedTable;
@@ -82,4 +82,20 @@ pub fn some_table(cards: &[u8], grades: u8, random: &mut Random) -> OwnedTable {
             })
         }
     }
+}
+
+/// A file with a few bytes changed, or with two records exchanged.
+pub fn damage(sound: &[u8], random: &mut Random) -> Vec<u8> {
+    let mut file = sound.to_vec();
+    if random.once_in(4) {
+        let mut records: Vec<&[u8]> = sound.chunks(16).collect();
+        let (one, two) = (random.below(records.len()), random.below(records.len()));
+        records.swap(one, two);
+        return records.concat();
+    }
+    for _ in 0..=random.below(3) {
+        let at = random.below(file.len());
+        file[at] = random.byte() % 20;
+    }
+    file
 }

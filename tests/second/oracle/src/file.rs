@@ -20,7 +20,7 @@ struct Reader {
 
 /// Reads a file into buffers of these lengths.
 pub fn read(file: &[u8], shape_room: usize, lower_room: usize, upper_room: usize) -> Answer<Read> {
-    stop_if(file.is_empty() || !file.len().is_multiple_of(16) || file.len() > 16_528, refusal::FILE_LENGTH)?;
+    stop_if(file.is_empty() || file.len() % 16 != 0 || file.len() > 16_528, refusal::FILE_LENGTH)?;
     // Two grades stand in until the grades record: no cell is judged before it.
     let mut reader = Reader { shape: Shape { cardinalities: vec![], grades: 2 }, graded: false, listed: vec![] };
     for record in file.chunks(16) {

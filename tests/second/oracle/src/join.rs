@@ -1,88 +1,71 @@
-//! Joins: document 01, section "Joins"; source document 001, Theorem 36 and its dual.
+//! Joins: document 01, section "Joins", by what they mean, for tables of every size.
+//!
+//! A function that is blind to a set has one grade on each line, that is on all cells equal outside the set. Two
+//! functions, the first blind to T and the second to S, are a max join when the greater of their grades is within the
+//! limits in every cell. A grade is open to a block at a cell when the block has it there in some join. A block's limits
+//! are the least and the greatest grade open to it.
+//!
+//! For the smallest tables every pair of functions is tried (`search`), and what is found here is held to that. For all:
+//! no function of a max join is above an upper limit anywhere. Of the functions blind to a set that are above none there
+//! is a greatest, with the greatest grade on each line that is above none of the line's upper limits. It reaches every
+//! lower limit that one of them reaches. So a max join exists exactly when the two greatest functions are one; and a
+//! grade is open to the first block on a line exactly when the function that has it there, and is else the greatest, is
+//! one with the greatest second function. Off the line that is the pair of the greatest again, so only the line is
+//! looked at. The second block is found in the same way, beside the first block given. For min the functions are the
+//! least that are below no lower limit.
 
 use crate::search::Search;
-use crate::{Answer, Gate, Limits, Shape, Table, Values, greatest, least, refusal, stop_if};
+use crate::{Answer, Gate, Limits, Shape, Table, Values, refusal, stop_if};
 use std::collections::BTreeMap;
 
 /// A block's limits, for each cell of its table.
 pub type Block = BTreeMap<Values, Limits>;
 
-/// Whether the join exists: by all tuples of cells, and also by all pairs of functions where these are few.
-pub fn exists(shape: &Shape, table: &Table, gate: Gate, s: u8, t: u8) -> bool {
-    // Each tuple is a cell, one that the first block cannot tell from it, and one that the second cannot.
-    let by_tuples = table.limits.iter().all(|(&cell, here)| {
-        let (same_first, same_second) = (table.over(shape, cell, t), table.over(shape, cell, s));
-        same_first.iter().all(|a| {
-            same_second.iter().all(|b| match gate {
-                Gate::Max => here.lower <= a.upper.max(b.upper),
-                Gate::Min => a.lower.min(b.lower) <= here.upper,
-            })
-        })
-    });
-    if let Some(search) = Search::new(shape, table, gate, s, t) {
-        assert_eq!(search.first_blocks().is_some(), by_tuples, "tuples and functions differ: {table:?} {s} {t}");
-    }
-    by_tuples
-}
-
-/// A grade for each cell of the table.
-fn for_each_cell(table: &Table, grade: impl Fn(Values) -> u8) -> BTreeMap<Values, u8> {
-    table.limits.keys().map(|&cell| (cell, grade(cell))).collect()
-}
-
-/// The limits of a block that may not depend on `blind`. `spared` says of a cell that the other block can do for it.
-fn block(shape: &Shape, table: &Table, gate: Gate, blind: u8, spared: impl Fn(Values, Limits) -> bool) -> Block {
-    let most = shape.grades - 1;
-    let asked = for_each_cell(table, |cell| {
-        let here = table.limits[&cell];
-        match gate {
-            Gate::Max if spared(cell, here) => 0,
-            Gate::Max => here.lower,
-            Gate::Min if spared(cell, here) => most,
-            Gate::Min => here.upper,
-        }
-    });
-    let limits = |&cell: &Values| {
-        let equal = shape.over(cell, blind);
-        let here = equal.iter().map(|cell| table.limits[cell]);
-        let asked = equal.iter().map(|cell| asked[cell]);
-        match gate {
-            Gate::Max => Limits { lower: greatest(asked), upper: least(here.map(|limits| limits.upper)) },
-            Gate::Min => Limits { lower: greatest(here.map(|limits| limits.lower)), upper: least(asked) },
-        }
+/// At a cell, the greatest function of those that are blind to the set and above no upper limit, for max; for min, the
+/// least of those that are below no lower limit.
+fn furthest(shape: &Shape, table: &Table, gate: Gate, blind: u8, cell: Values) -> u8 {
+    let line = table.over(shape, cell, blind);
+    let grade = match gate {
+        Gate::Max => (0..shape.grades).rev().find(|&grade| line.iter().all(|limits| grade <= limits.upper)),
+        Gate::Min => (0..shape.grades).find(|&grade| line.iter().all(|limits| grade >= limits.lower)),
     };
-    table.limits.keys().map(|cell| (*cell, limits(cell))).collect()
+    grade.expect("grade 0 is above no limit, the last grade below none")
+}
+
+/// Whether the join exists.
+pub fn exists(shape: &Shape, table: &Table, gate: Gate, s: u8, t: u8) -> bool {
+    let furthest = |blind, cell| furthest(shape, table, gate, blind, cell);
+    let joins = |(&cell, limits): (&Values, &Limits)| limits.allow(gate.of(furthest(t, cell), furthest(s, cell)));
+    let exists = table.limits.iter().all(joins);
+    if let Some(search) = Search::new(shape, table, gate, s, t) {
+        assert_eq!(search.first_blocks().is_some(), exists, "furthest and all functions differ: {table:?} {s} {t}");
+    }
+    exists
+}
+
+/// The limits of a block that is blind to the set, in a join that exists, beside the other block's grades.
+fn block(shape: &Shape, table: &Table, gate: Gate, blind: u8, other: impl Fn(Values) -> u8) -> Block {
+    let other: BTreeMap<Values, u8> = table.limits.keys().map(|&cell| (cell, other(cell))).collect();
+    let open = table.open(shape, blind, |cell, limits, grade| limits.allow(gate.of(grade, other[&cell])));
+    open.expect("a join that exists has both blocks")
 }
 
 /// The first block's limits.
 pub fn first_block(shape: &Shape, table: &Table, gate: Gate, s: u8, t: u8) -> Block {
-    let furthest = for_each_cell(table, |cell| {
-        let equal = table.over(shape, cell, s);
-        match gate {
-            Gate::Max => least(equal.iter().map(|limits| limits.upper)),
-            Gate::Min => greatest(equal.iter().map(|limits| limits.lower)),
-        }
-    });
-    let found = block(shape, table, gate, t, |cell, here| match gate {
-        Gate::Max => here.lower <= furthest[&cell],
-        Gate::Min => here.upper >= furthest[&cell],
-    });
+    let found = block(shape, table, gate, t, |cell| furthest(shape, table, gate, s, cell));
     if let Some(search) = Search::new(shape, table, gate, s, t) {
         let searched = search.first_blocks().into_iter().flatten();
-        assert!(searched.eq(found.clone()), "first blocks by definition and by search differ: {table:?} {s} {t}");
+        assert!(searched.eq(found.clone()), "first blocks by lines and by search differ: {table:?} {s} {t}");
     }
     found
 }
 
 /// The second block's limits, given the first block.
 pub fn second_block(shape: &Shape, table: &Table, gate: Gate, s: u8, t: u8, first: impl Fn(Values) -> u8) -> Block {
-    let found = block(shape, table, gate, s, |cell, here| match gate {
-        Gate::Max => here.lower <= first(cell),
-        Gate::Min => here.upper >= first(cell),
-    });
+    let found = block(shape, table, gate, s, &first);
     if let Some(search) = Search::new(shape, table, gate, s, t) {
         let searched = search.second_blocks(first).into_iter().flatten();
-        assert!(searched.eq(found.clone()), "second blocks by definition and by search differ: {table:?} {s} {t}");
+        assert!(searched.eq(found.clone()), "second blocks by lines and by search differ: {table:?} {s} {t}");
     }
     found
 }
@@ -123,11 +106,14 @@ impl Lent<'_> {
     pub fn second(&self, given: &[u8]) -> Answer<Vec<Limits>> {
         let (shape, table, first) = self.judged(Some(given.len()))?;
         let grade = |cell: Values| given[shape.number(cell)];
-        let sound = first.iter().all(|(&cell, limits)| {
-            let grade_here = grade(cell);
-            let blind = shape.over(cell, self.t).into_iter().all(|other| grade(other) == grade_here);
-            blind && limits.lower <= grade_here && grade_here <= limits.upper
+        let is_blind = |cell| shape.over(cell, self.t).into_iter().all(|other| grade(other) == grade(cell));
+        let sound = first.iter().all(|(&cell, limits)| is_blind(cell) && limits.allow(grade(cell)));
+        // The same without the limits: it is a function, blind to T, and some second block joins with it.
+        let joins = table.limits.iter().all(|(&cell, limits)| {
+            let second = furthest(&shape, &table, self.gate, self.s, cell);
+            is_blind(cell) && grade(cell) < shape.grades && limits.allow(self.gate.of(grade(cell), second))
         });
+        assert_eq!(sound, joins, "limits and joins differ on a first block: {table:?} {given:?}");
         stop_if(!sound, refusal::FIRST_BLOCK)?;
         let second = second_block(&shape, &table, self.gate, self.s, self.t, grade);
         Ok(shape.cells().iter().map(|cell| second[cell]).collect())

@@ -1,11 +1,14 @@
 //! A second implementation of document 01, by definition and by search, clear before quick.
 //!
-//! It shares no code and no formula with what it is compared with. Cells are vectors of values, a table is a map
-//! from these to limits, "over a set" lists the cells, and max and min are each written out. Nothing here writes to a
+//! It shares no code with what it is compared with. Cells are vectors of values, a table is a map from these to limits,
+//! "over a set" lists the cells, and max and min are each written out. The rows of refusals and the order of a stage's
+//! steps are as document 01 has them; which limits a join leaves and whether it exists are not by its formulas, but
+//! found by trying grades (`join`), and by trying all functions where these are few (`search`). Nothing here writes to a
 //! caller's buffer: a call gives what must be answered and written, or a refusal's number.
 
 pub mod file;
 pub mod join;
+pub mod listing;
 pub mod network;
 pub mod search;
 pub mod stages;
@@ -40,10 +43,25 @@ pub enum Gate {
     Max,
 }
 
+impl Gate {
+    pub(crate) fn of(self, left: u8, right: u8) -> u8 {
+        match self {
+            Gate::Min => left.min(right),
+            Gate::Max => left.max(right),
+        }
+    }
+}
+
 #[derive(Clone, Copy, Debug, PartialEq, Eq)]
 pub struct Limits {
     pub lower: u8,
     pub upper: u8,
+}
+
+impl Limits {
+    pub(crate) fn allow(self, grade: u8) -> bool {
+        self.lower <= grade && grade <= self.upper
+    }
 }
 
 #[derive(Clone, Debug)]
@@ -153,12 +171,27 @@ impl Table {
     pub(crate) fn over(&self, shape: &Shape, cell: Values, set: u8) -> Vec<Limits> {
         shape.over(cell, set).iter().map(|cell| self.limits[cell]).collect()
     }
-}
 
-pub(crate) fn least<T: Ord>(grades: impl IntoIterator<Item = T>) -> T {
-    grades.into_iter().min().expect("a cell is among those equal to it")
-}
-
-pub(crate) fn greatest<T: Ord>(grades: impl IntoIterator<Item = T>) -> T {
-    grades.into_iter().max().expect("a cell is among those equal to it")
+    /// For each cell the least and the greatest grade that is good in all cells equal to it outside the set, or none if
+    /// somewhere no grade is. Every grade between these two is good as well, or limits could not say which are.
+    pub(crate) fn open(
+        &self,
+        shape: &Shape,
+        set: u8,
+        good: impl Fn(Values, Limits, u8) -> bool,
+    ) -> Option<BTreeMap<Values, Limits>> {
+        let mut open = BTreeMap::new();
+        for &cell in self.limits.keys() {
+            if open.contains_key(&cell) {
+                continue;
+            }
+            let line = shape.over(cell, set);
+            let good = |&grade: &u8| line.iter().all(|&cell| good(cell, self.limits[&cell], grade));
+            let grades: Vec<u8> = (0..shape.grades).filter(good).collect();
+            let limits = Limits { lower: *grades.first()?, upper: *grades.last()? };
+            assert!(grades.into_iter().eq(limits.lower..=limits.upper), "a grade between good ones is not: {self:?}");
+            open.extend(line.into_iter().map(|cell| (cell, limits)));
+        }
+        Some(open)
+    }
 }

@@ -54,7 +54,7 @@ impl Record {
 /// The records of a network, or the refusal of a network that is not one.
 pub fn records(network: &[u8], shape: &Shape) -> Answer<Vec<Record>> {
     let count = network.len() / 16;
-    stop_if(!(1..=4096).contains(&count) || !network.len().is_multiple_of(16), refusal::NETWORK)?;
+    stop_if(!(1..=4096).contains(&count) || network.len() % 16 != 0, refusal::NETWORK)?;
     let records = network.chunks(16).enumerate().map(|(number, bytes)| Record::from_bytes(bytes, number, shape));
     records.collect::<Option<_>>().ok_or(refusal::NETWORK)
 }
@@ -67,8 +67,7 @@ pub fn grade(records: &[Record], first: usize, cell: Values) -> u8 {
         let grade = match *record {
             Record::Constant(grade) => grade,
             Record::Literal(condition, held) => held[cell[condition as usize] as usize],
-            Record::Gate(Gate::Min, left, right) => input(left).min(input(right)),
-            Record::Gate(Gate::Max, left, right) => input(left).max(input(right)),
+            Record::Gate(gate, left, right) => gate.of(input(left), input(right)),
         };
         grades.push(grade);
     }
@@ -93,7 +92,7 @@ pub fn check(network: &[u8], shape: &[u8], lower: &[u8], upper: &[u8], work: usi
     let records = records(network, &shape)?;
     let at = |(number, &cell): (usize, &Values)| {
         let (grade, limits) = (grade(&records, 0, cell), table.limits[&cell]);
-        (grade < limits.lower || grade > limits.upper).then_some((number, grade))
+        (!limits.allow(grade)).then_some((number, grade))
     };
     Ok(shape.cells().iter().enumerate().find_map(at))
 }

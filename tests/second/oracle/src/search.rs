@@ -27,14 +27,6 @@ fn seen_without(cell: Values, set: u8) -> Values {
     (0..8).filter(|&condition| has(set, condition)).fold(cell, |cell, condition| with(cell, condition, 0))
 }
 
-fn fits(gate: Gate, cell: &Cell, first: u8, second: u8) -> bool {
-    let grade = match gate {
-        Gate::Min => first.min(second),
-        Gate::Max => first.max(second),
-    };
-    cell.limits.lower <= grade && grade <= cell.limits.upper
-}
-
 /// Every function on so many cells, as its grades.
 fn functions(cells: usize, grades: u8) -> impl Iterator<Item = Vec<u8>> {
     let count = (grades as u64).pow(cells as u32);
@@ -83,7 +75,8 @@ impl<'a> Search<'a> {
     }
 
     fn joins(&self, first: &[u8], second: &[u8]) -> bool {
-        self.cells.iter().all(|cell| fits(self.gate, cell, first[cell.first], second[cell.second]))
+        let fits = |cell: &Cell| cell.limits.allow(self.gate.of(first[cell.first], second[cell.second]));
+        self.cells.iter().all(fits)
     }
 
     /// The least and the greatest grade that any first block has at each cell of the table.

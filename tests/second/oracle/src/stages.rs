@@ -2,7 +2,7 @@
 
 use crate::join::{exists, first_block, second_block};
 use crate::network::{Record, grade};
-use crate::{Answer, Gate, Limits, Shape, Table, Values, greatest, has, least, refusal, stop_if, with};
+use crate::{Answer, Gate, Limits, Shape, Table, Values, has, refusal, stop_if, with};
 use std::cmp::Reverse;
 use std::collections::BTreeMap;
 
@@ -28,7 +28,7 @@ pub fn compile(shape: &[u8], lower: &[u8], upper: &[u8], work: usize, network: u
     assert!(records.len() <= most, "{} records for {count} cells", records.len());
     for (&cell, limits) in &table.limits {
         let grade = grade(&records, 0, cell);
-        assert!(limits.lower <= grade && grade <= limits.upper, "outside its limits at {cell:?}: {table:?}");
+        assert!(limits.allow(grade), "outside its limits at {cell:?}: {table:?}");
     }
     Ok(records)
 }
@@ -81,16 +81,12 @@ impl Compiling<'_> {
         }
     }
 
-    /// Step 1.
+    /// Step 1: a condition can go when some function that is blind to it is within the limits, and leaves what such a
+    /// function may be.
     fn dropped(&self, mut table: Table) -> Table {
         for condition in table.conditions.clone() {
-            let over = |&cell: &Values| {
-                let equal = table.over(self.shape, cell, 1 << condition);
-                let lower = greatest(equal.iter().map(|limits| limits.lower));
-                (cell, Limits { lower, upper: least(equal.iter().map(|limits| limits.upper)) })
-            };
-            let limits: BTreeMap<Values, Limits> = table.limits.keys().map(over).collect();
-            if limits.values().all(|limits| limits.lower <= limits.upper) {
+            let open = table.open(self.shape, 1 << condition, |_, limits, grade| limits.allow(grade));
+            if let Some(limits) = open {
                 table = part(&table, &limits, |other| other != condition);
             }
         }

@@ -22,7 +22,7 @@ fn cell_number(record: &[u8], cards: &[u8]) -> Option<usize> {
 }
 
 pub fn read(file: &[u8], shape: &mut [u8], limits: Limits) -> Answer<u32> {
-    refuse_if(file.is_empty() || !file.len().is_multiple_of(RECORD) || file.len() > MOST_BYTES, 1)?;
+    refuse_if(file.is_empty() || file.len() % RECORD != 0 || file.len() > MOST_BYTES, 1)?;
     let mut head = [0u8; 10];
     let mut conditions = 0;
     let mut cells = 1usize;

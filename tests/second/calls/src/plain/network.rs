@@ -29,10 +29,7 @@ fn sound(record: &[u8], number: usize, shape: &Shape) -> bool {
 }
 
 fn judge(network: &[u8], shape: &Shape) -> Answer<()> {
-    refuse_if(
-        network.is_empty() || !network.len().is_multiple_of(RECORD) || network.len() > MOST_RECORDS * RECORD,
-        11,
-    )?;
+    refuse_if(network.is_empty() || network.len() % RECORD != 0 || network.len() > MOST_RECORDS * RECORD, 11)?;
     let fault = network.chunks_exact(RECORD).enumerate().any(|(number, record)| !sound(record, number, shape));
     refuse_if(fault, 11)
 }

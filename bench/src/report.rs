@@ -1,0 +1,117 @@
+//! What was measured, as a table in Markdown, as the document around it, and as the lines of the plot.
+
+use crate::plot;
+use std::process::Command;
+
+/// What one call costs with each implementation.
+pub struct Row {
+    pub name: String,
+    /// In the plot: which line it belongs to, and the number of cells.
+    pub growth: Option<(&'static str, usize)>,
+    pub counts: Vec<f64>,
+    /// In microseconds.
+    pub times: Vec<f64>,
+}
+
+/// The rows, and the names of the implementations: the library first where there are two.
+pub struct Report {
+    pub names: Vec<&'static str>,
+    pub rows: Vec<Row>,
+}
+
+/// The first figure as so many times the second, where there are two.
+fn ratio(figures: &[f64]) -> Option<f64> {
+    if let [library, plain] = figures { Some(library / plain) } else { None }
+}
+
+/// A whole number with a comma after each third digit.
+pub fn grouped(count: f64) -> String {
+    let digits = format!("{count:.0}");
+    let groups: Vec<&str> =
+        digits.as_bytes().rchunks(3).rev().map(|group| std::str::from_utf8(group).unwrap_or("")).collect();
+    groups.join(",")
+}
+
+/// What a compiler says of itself.
+fn version(compiler: &str, argument: &str) -> String {
+    let output = Command::new(compiler).arg(argument).output();
+    let said = output.ok().and_then(|output| String::from_utf8(output.stdout).ok());
+    said.map(|said| said.trim().to_string()).filter(|said| !said.is_empty()).unwrap_or("not known".into())
+}
+
+impl Report {
+    pub fn new(names: Vec<&'static str>) -> Report {
+        Report { names, rows: vec![] }
+    }
+
+    pub fn heading(&self) -> String {
+        let ratio = if self.names.len() == 2 { " ratio |" } else { "" };
+        let columns =
+            |unit: &str| self.names.iter().map(|name| format!(" {name}, {unit} |")).collect::<String>() + ratio;
+        let headings = format!("| call |{}{}", columns("instructions"), columns("µs"));
+        let figures = headings.matches('|').count() - 2;
+        format!("{headings}\n|---|{}\n", "---:|".repeat(figures))
+    }
+
+    pub fn shown(&self, row: &Row) -> String {
+        let ratio = |figures: &[f64]| ratio(figures).map_or(String::new(), |ratio| format!(" {ratio:.2} |"));
+        let counts: String = row.counts.iter().map(|&count| format!(" {} |", grouped(count))).collect();
+        let times: String = row.times.iter().map(|time| format!(" {time:.1} |")).collect();
+        format!("| {} |{counts}{}{times}{}\n", row.name, ratio(&row.counts), ratio(&row.times))
+    }
+
+    /// The greatest ratio of instructions and the greatest of times, each with its call.
+    pub fn worst(&self) -> String {
+        let worst = |unit: &str, of: fn(&Row) -> &[f64]| {
+            let ratios = self.rows.iter().filter_map(|row| Some((ratio(of(row))?, &row.name)));
+            let worst = ratios.max_by(|(one, _), (two, _)| one.total_cmp(two));
+            worst.map_or(String::new(), |(ratio, name)| format!("Worst ratio of {unit}: {ratio:.2}, {name}.\n"))
+        };
+        worst("instructions", |row| &row.counts) + &worst("times", |row| &row.times)
+    }
+
+    pub fn document(&self) -> String {
+        let table: String = self.rows.iter().map(|row| self.shown(row)).collect();
+        let heading = self.heading();
+        let worst: String = self.worst().lines().map(|line| format!("- {line}\n")).collect();
+        let ratios = match &worst[..] {
+            "" => String::new(),
+            worst => format!("- A ratio is the library's figure divided by the plain one's.\n{worst}"),
+        };
+        let (rust, rattle) = (version("rustc", "--version"), version("rt", "version"));
+        format!(
+            "\
+# Benchmarks
+
+What one call costs in the proved library, and in plain safe Rust that answers the same calls with the same bytes
+(`tests/second/calls/src/plain`). `bench/run` measures both and writes this file.
+
+- Instructions are counted by callgrind, and are the same in every run with the same compilers.
+- Times are in microseconds, the least in one run, on a machine that does other work as well.
+{ratios}- A table is named by its cardinalities and what it holds: 8 2⁷ is a condition of eight values and seven of two, 1,024 cells.
+  m is the number of grades. A parity table splits at every stage.
+- Compilers: `{rust}` for the plain one, `{rattle}` for the library.
+
+{heading}{table}
+![Instructions of one compile by cells of the table](compile-cost.svg)
+"
+        )
+    }
+
+    /// The plot's lines: each kind of table with each implementation.
+    pub fn lines(&self) -> Vec<plot::Line> {
+        let mut lines: Vec<plot::Line> = vec![];
+        for row in &self.rows {
+            let Some((line, cells)) = row.growth else { continue };
+            for (name, &count) in self.names.iter().zip(&row.counts) {
+                let name = format!("{line}: {name}");
+                let at = lines.iter().position(|line| line.name == name).unwrap_or_else(|| {
+                    lines.push(plot::Line { plain: name.ends_with("plain"), kind: line, name, points: vec![] });
+                    lines.len() - 1
+                });
+                lines[at].points.push((cells as f64, count));
+            }
+        }
+        lines
+    }
+}

@@ -1,0 +1,316 @@
+//! Runs the program `grades`, each time as a process of its own, and compares what it prints, byte for byte, with the
+//! oracle's listing and with the listings that the documents print.
+//!
+//! The environment variable GRADES_PROGRAM names the program, else it is target/bin/grades. This and the documents are
+//! found from the repository's root.
+
+use crate::random::Random;
+use crate::session::Outcome;
+use crate::tables::{cardinality_lists, damage, some_table};
+use calls::tables::OwnedTable;
+use oracle::listing::listing;
+use std::ffi::OsString;
+use std::fs::{self, File};
+use std::io::{self, Read, Seek, SeekFrom, Write};
+use std::os::unix::process::ExitStatusExt;
+use std::process::{Command, Output, Stdio};
+use std::thread;
+use std::time::Duration;
+
+/// The table E of document 01, and the listing that it prints whole.
+const E: [(u8, u8); 4] = [(0, 0), (1, 1), (1, 1), (0, 0)];
+const LISTING_OF_E: &str = "0 L 0 1 0\n1 L 1 0 1\n2 MIN 0 1\n3 L 0 0 1\n4 L 1 1 0\n5 MIN 3 4\n6 MAX 2 5\nrecords 7\n";
+
+/// The refusals that a table file can get.
+const REFUSALS: std::ops::RangeInclusive<usize> = 1..=6;
+
+pub struct Program {
+    path: OsString,
+    random: Random,
+    pub files: u64,
+    seen: [bool; 7],
+}
+
+/// Says what was being done when an error came up.
+fn during<T>(what: &str, result: io::Result<T>) -> Outcome<T> {
+    result.map_err(|error| format!("{what}: {error}"))
+}
+
+/// The name of a table file, if the line has one.
+fn table_named(line: &str) -> Option<&str> {
+    let words = line.split(|letter: char| !letter.is_alphanumeric() && letter != '_' && letter != '.');
+    words.rev().find(|word| word.ends_with(".table"))
+}
+
+/// The listings that a document prints: indented blocks that end with the number of records, each with the table file
+/// that the document named last.
+fn listings(text: &str) -> Vec<(&str, String)> {
+    let mut found = vec![];
+    let mut named = "";
+    let mut block = String::new();
+    for line in text.lines().chain([""]) {
+        if let Some(code) = line.strip_prefix("    ") {
+            block += &format!("{code}\n");
+        } else {
+            if block.lines().last().is_some_and(|last| last.starts_with("records ")) {
+                found.push((named, block.clone()));
+            }
+            block.clear();
+        }
+        named = table_named(line).unwrap_or(named);
+    }
+    found
+}
+
+/// What differs between what was printed and what should have been.
+fn difference(printed: &[u8], wanted: &str) -> Option<String> {
+    if printed == wanted.as_bytes() {
+        return None;
+    }
+    let printed = String::from_utf8_lossy(printed);
+    let (mut printed, mut wanted) = (printed.split_inclusive('\n'), wanted.split_inclusive('\n'));
+    (1..).find_map(|line| match (printed.next(), wanted.next()) {
+        (one, two) if one == two => None,
+        (one, two) => Some(format!("line {line}: {:?}, expected {:?}", one.unwrap_or(""), two.unwrap_or(""))),
+    })
+}
+
+/// The longest file. Record numbers in its network take up to four digits and two bytes.
+fn longest_file() -> Vec<u8> {
+    let parity = |values: &[u8]| values.iter().sum::<u8>() % 2;
+    OwnedTable::by_rule(&[8, 2, 2, 2, 2, 2, 2, 2], 2, |values| (parity(values), parity(values))).file(|| true)
+}
+
+fn piped(mut command: Command) -> Command {
+    command.stdout(Stdio::piped()).stderr(Stdio::piped());
+    command
+}
+
+/// Runs the command to its end.
+fn run(mut command: Command) -> Outcome<Output> {
+    during("the program cannot be run", command.output())
+}
+
+/// Runs the command with the bytes on a pipe, written in so many pieces.
+fn feed(mut command: Command, bytes: &[u8], pieces: usize) -> Outcome<Output> {
+    let mut child = during("the program cannot be run", command.stdin(Stdio::piped()).spawn())?;
+    let mut input = child.stdin.take().expect("standard input is a pipe");
+    let length = bytes.len().div_ceil(pieces).max(1);
+    let output = thread::scope(|scope| {
+        scope.spawn(move || {
+            for piece in bytes.chunks(length) {
+                // A program that has read enough need not wait for the rest.
+                if input.write_all(piece).is_err() {
+                    break;
+                }
+                if length < bytes.len() {
+                    thread::sleep(Duration::from_millis(1));
+                }
+            }
+        });
+        child.wait_with_output()
+    });
+    during("the program's output cannot be read", output)
+}
+
+/// A file that gives a few bytes and then fails to be read: the end of a part of this process's memory.
+fn fails_midway() -> Outcome<File> {
+    const BYTES: usize = 160;
+    let maps = during("/proc/self/maps", fs::read_to_string("/proc/self/maps"))?;
+    let before = |end: u64| {
+        let mut memory = File::open("/proc/self/mem")?;
+        memory.seek(SeekFrom::Start(end - BYTES as u64)).map(|_| memory)
+    };
+    let fails = |&end: &u64| {
+        let mut bytes = [0; BYTES];
+        before(end).is_ok_and(|mut memory| memory.read_exact(&mut bytes).is_ok() && memory.read(&mut bytes).is_err())
+    };
+    let mut ends = maps.lines().filter_map(|line| u64::from_str_radix(line.split(['-', ' ']).nth(1)?, 16).ok());
+    let end = ends.find(fails).ok_or("no part of this process's memory ends with bytes that can be read")?;
+    during("/proc/self/mem", before(end))
+}
+
+impl Program {
+    pub fn new(seed: u64) -> Program {
+        let named = std::env::var_os("GRADES_PROGRAM").filter(|path| !path.is_empty());
+        let path = named.unwrap_or("target/bin/grades".into());
+        Program { path, random: Random::new(seed), files: 0, seen: [false; 7] }
+    }
+
+    /// Everything that is to be tried.
+    pub fn run(&mut self) -> Outcome<()> {
+        self.documents()?;
+        self.failing_input_and_output()?;
+        self.lengths()?;
+        self.damaged_bytes()?;
+        self.every_shape()?;
+        match REFUSALS.filter(|&number| !self.seen[number]).collect::<Vec<_>>()[..] {
+            [] => Ok(()),
+            ref unseen => Err(format!("no file was refused with {unseen:?}")),
+        }
+    }
+
+    fn command(&self) -> Command {
+        piped(Command::new(&self.path))
+    }
+
+    /// Runs the program with a file as standard input.
+    fn on(&self, input: File) -> Outcome<Output> {
+        let mut command = self.command();
+        command.stdin(input);
+        run(command)
+    }
+
+    /// The program with one of its descriptors closed, which a shell can do.
+    fn with_closed(&self, redirection: &str) -> Command {
+        let mut shell = Command::new("sh");
+        shell.args(["-c", &format!("exec \"$0\" {redirection}")]).arg(&self.path);
+        piped(shell)
+    }
+
+    /// Settles a run that must print this, and nothing on standard error.
+    fn settle(&mut self, file: &str, bytes: &[u8], output: Output, wanted: &str) -> Outcome<()> {
+        self.files += 1;
+        let number = wanted.strip_prefix("refused ").and_then(|number| number.trim_end().parse::<usize>().ok());
+        if let Some(seen) = number.and_then(|number| self.seen.get_mut(number)) {
+            *seen = true;
+        }
+        let signal = output.status.signal().map(|signal| format!("ended by signal {signal}"));
+        let printed = || difference(&output.stdout, wanted).map(|difference| format!("printed {difference}"));
+        let error = || difference(&output.stderr, "").map(|difference| format!("on standard error {difference}"));
+        match signal.or_else(printed).or_else(error) {
+            None => Ok(()),
+            Some(fault) => {
+                let head: Vec<String> = bytes.chunks(16).take(12).map(|record| format!("  {record:?}")).collect();
+                let length = bytes.len();
+                Err(format!("file {}, {file}: {fault}\n  {length} bytes:\n{}", self.files, head.join("\n")))
+            }
+        }
+    }
+
+    /// Runs the program on a file, beside the oracle.
+    fn compare(&mut self, file: &str, bytes: &[u8]) -> Outcome<()> {
+        let pieces = if self.random.once_in(16) { 1 + self.random.below(5) } else { 1 };
+        let output = feed(self.command(), bytes, pieces)?;
+        self.settle(file, bytes, output, &listing(bytes))
+    }
+
+    /// Document 01's own listing, and those of README.md and of examples/README.md, which has one for each example.
+    fn documents(&mut self) -> Outcome<()> {
+        let table = OwnedTable::by_rule(&[2, 2], 2, |values| E[values[0] as usize + 2 * values[1] as usize]);
+        let bytes = table.file(|| true);
+        let output = feed(self.command(), &bytes, 1)?;
+        self.settle("table E", &bytes, output, LISTING_OF_E)?;
+        let mut examples = vec![];
+        for entry in during("examples", fs::read_dir("examples"))? {
+            let name = during("examples", entry)?.file_name().to_string_lossy().into_owned();
+            examples.extend(name.ends_with(".table").then_some(name));
+        }
+        for (document, needed) in [("README.md", &[][..]), ("examples/README.md", &examples)] {
+            let text = during(document, fs::read_to_string(document))?;
+            let listings = listings(&text);
+            let listed = |name: &String| listings.iter().any(|(named, _)| named == name);
+            if let Some(name) = needed.iter().find(|&name| !listed(name)) {
+                return Err(format!("{document}: no listing of {name}"));
+            }
+            if listings.is_empty() {
+                return Err(format!("{document}: no listing"));
+            }
+            for (name, wanted) in listings {
+                let path = format!("examples/{name}");
+                let bytes = during(&path, fs::read(&path))?;
+                let input = during(&path, File::open(&path))?;
+                let output = self.on(input)?;
+                self.settle(&format!("{path} of {document}"), &bytes, output, &wanted)?;
+                self.compare(&path, &bytes)?;
+            }
+        }
+        Ok(())
+    }
+
+    /// For every list of cardinalities, rising or falling, a table and its file with some damage.
+    fn every_shape(&mut self) -> Outcome<()> {
+        for mut cards in cardinality_lists() {
+            if self.random.once_in(2) {
+                cards.reverse();
+            }
+            let grades = 2 + self.random.below(15) as u8;
+            let table = some_table(&cards, grades, &mut self.random);
+            let sound = table.file(|| self.random.once_in(2));
+            self.compare(&format!("cardinalities {cards:?}"), &sound)?;
+            let damaged = damage(&sound, &mut self.random);
+            self.compare(&format!("cardinalities {cards:?}, damaged"), &damaged)?;
+        }
+        Ok(())
+    }
+
+    /// A small file with each of its bytes changed, and with each of its records left out or repeated.
+    fn damaged_bytes(&mut self) -> Outcome<()> {
+        let sound = some_table(&[2, 3], 3, &mut self.random).file(|| true);
+        for at in 0..sound.len() {
+            for value in [sound[at] + 1, sound[at].wrapping_sub(1), self.random.byte()] {
+                let mut file = sound.clone();
+                file[at] = value;
+                self.compare(&format!("byte {at} changed"), &file)?;
+            }
+        }
+        for (number, _) in sound.chunks(16).enumerate() {
+            let (before, rest) = sound.split_at(16 * number);
+            self.compare(&format!("without record {number}"), &[before, &rest[16..]].concat())?;
+            self.compare(&format!("record {number} twice"), &[before, &rest[..16], rest].concat())?;
+            self.compare(&format!("up to record {number}"), before)?;
+        }
+        Ok(())
+    }
+
+    /// The longest file, and files that are longer or end within a record.
+    fn lengths(&mut self) -> Outcome<()> {
+        let longest = longest_file();
+        assert!(longest.len() == 16_528 && listing(&longest).ends_with("records 3055\n"));
+        self.compare("the longest file", &longest)?;
+        for more in [1, 15, 16, 17, 100_000] {
+            // What comes after the longest file looks like a record that has been there.
+            let rest = longest[longest.len() - 16..].iter().cycle().take(more);
+            let file: Vec<u8> = longest.iter().chain(rest).copied().collect();
+            self.compare(&format!("the longest file and {more} bytes"), &file)?;
+        }
+        for length in [0, 1, 15, 16, 17, 143, 145, 16_511, 16_512, 16_513, 16_527] {
+            self.compare(&format!("{length} bytes of the longest file"), &longest[..length])?;
+        }
+        Ok(())
+    }
+
+    /// Where reading fails nothing is printed, and where it or writing fails standard error has a line.
+    fn failing_input_and_output(&mut self) -> Outcome<()> {
+        for (case, output) in [
+            ("a folder as standard input", self.on(during("examples", File::open("examples"))?)?),
+            ("standard input that fails midway", self.on(fails_midway()?)?),
+            ("standard input closed", run(self.with_closed("<&-"))?),
+        ] {
+            if let Some(difference) = difference(&output.stdout, "") {
+                return Err(format!("{case}: printed {difference}"));
+            }
+            one_line_of_error(case, &output)?;
+        }
+        let sound = some_table(&[2, 3, 2], 4, &mut self.random).file(|| true);
+        for (file, bytes) in [("a table", &sound[..]), ("the longest file", &longest_file()), ("a refused file", &[0])]
+        {
+            let mut full = self.command();
+            full.stdout(during("/dev/full", File::options().write(true).open("/dev/full"))?);
+            let output = feed(full, bytes, 1)?;
+            one_line_of_error(&format!("{file}, standard output full"), &output)?;
+            let output = feed(self.with_closed(">&-"), bytes, 1)?;
+            one_line_of_error(&format!("{file}, standard output closed"), &output)?;
+        }
+        Ok(())
+    }
+}
+
+fn one_line_of_error(case: &str, output: &Output) -> Outcome<()> {
+    let text = String::from_utf8_lossy(&output.stderr);
+    let one_line = text.ends_with('\n') && text.lines().count() == 1 && !text.trim().is_empty();
+    if let Some(signal) = output.status.signal() {
+        return Err(format!("{case}: ended by signal {signal}"));
+    }
+    if one_line { Ok(()) } else { Err(format!("{case}: on standard error {text:?}, expected one line")) }
+}
