@@ -12,7 +12,7 @@ use Rattle.laws.proofs.TestLaws.{and-i, cond-ok}
 use Rattle.laws.proofs.TableLaws.{all-of, tabulate-self}
 use Rattle.laws.proofs.TreeLaws.{RecordOk, RecordsOk}
 use Rattle.rules.specs.declared.Gate.the-variants.{Min, Max}
-use Rattle.rules.specs.Bytes.{at, all, tabulate, recordAt}
+use Rattle.rules.specs.Bytes.{at, all, tabulate, recordAt, Past}
 use Rattle.rules.specs.Cell.{card, present}
 use Rattle.rules.specs.Network.{Record, constant, literal, gate, recordBytes, networkBytes, recordOf, recordsFrom, networkRecords, literalByteSound, recordSound, networkSound, maxRecords}
 
@@ -128,3 +128,10 @@ module _ (ks : List ℕ) where
         (rw (count-bytes rs)
         (all-of (length rs) (λ j. recordSound ks m j (recordAt net j))
         (λ j l. subst (λ (n : ℕ). T (recordSound ks m n (recordAt net j))) (zero-add j) (sound-bytes 0 rs h j l))))
+
+-- bytes that stay
+pub past-same : {n : ℕ} {w : List ℕ} → Past n w w
+past-same = record { long = refl; rest = refl }
+
+pub past-then : {n : ℕ} {a b c : List ℕ} → Past n a b → Past n b c → Past n a c
+past-then p q = record { long = q .long ∙ p .long; rest = q .rest ∙ p .rest }

@@ -1,11 +1,12 @@
 -- Demand 3, of every table that 01 accepts.
 use Prim.Native.Nat.{ℕ, _-_, _*_, _≤_, max}
-use mathlib.Core.Path.{sym, subst}
+use mathlib.Core.Path.{_≡_, sym, subst}
 use mathlib.Core.List.{List}
 use native.Mathlib.Omega.{arith}
 use lib.ListN.{length}
 use Rattle.rules.specs.Cell.{cells}
 use Rattle.rules.specs.Limits.{Limits}
+use Rattle.rules.specs.Network.{networkBytes, networkRecords}
 use Rattle.rules.specs.Stage.{compiled}
 use Rattle.rules.specs.Demands.{Table, compiledRecords, Compiled}
 use Rattle.laws.proofs.RunLaws.{tree-run}
@@ -25,12 +26,20 @@ module _ (ks : List ℕ) (m : ℕ) (l : Limits) (t : Table ks m l) where
   ok : RecordsOk ks m 0 (compiledRecords ks m l)
   ok = made-records ks m (compiled ks m l) 0 (compiled-ok ks m l t .made)
 
+  reads : networkRecords ks (networkBytes (compiledRecords ks m l)) ≡ compiledRecords ks m l
+  reads = networkRecords-bytes ks (t .few-values) m (compiledRecords ks m l) ok
+
   pub compiled-all : Compiled ks m l
   compiled-all =
       record {
-        within = λ c hc. rw (networkRecords-bytes ks (t .few-values) m (compiledRecords ks m l) ok, tree-run (compiled ks m l) ks c) (compiled-ok ks m l t .within c hc);
+        within = λ c hc. rw (reads, tree-run (compiled ks m l) ks c) (compiled-ok ks m l t .within c hc);
+        reads = reads;
         sound = networkSound-bytes ks (t .few-values) m (compiledRecords ks m l) ok some (omega (arith, most, t .few-cells));
         one = λ e. omega (arith, most, some);
         most = λ h. omega (arith, most);
         stages = every-stage ks m l t;
       }
+
+-- no table has more records than the largest
+pub few-compiled : {ks : List ℕ} {m : ℕ} {l : Limits} → Table ks m l → length (compiledRecords ks m l) ≤ 3067
+few-compiled {ks} {m} {l} t = omega (arith, most ks m l t, t .few-cells)

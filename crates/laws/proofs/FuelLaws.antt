@@ -11,7 +11,7 @@ use Rattle.rules.specs.Cell.{Positive, card, present, width, lowest, singleton}
 use Rattle.rules.specs.Limits.{Limits}
 use Rattle.rules.specs.Tree.{Tree, fixed, gated}
 use Rattle.rules.specs.Stage.{Stage, outside, merged, fits, drops, left, Choice, split, joining, chosen, firstStage, secondStage, cofactorStage, computed, selector, splitPart, splitTo, choiceTree, leftTree, stageTree, treeOf}
-use Rattle.rules.specs.Demands.{Admits, Table, EveryStage}
+use Rattle.rules.specs.Demands.{Admits, Table, Built, EveryStage}
 use Rattle.rules.specs.declared.Gate.the-variants.{Min, Max}
 use Rattle.laws.proofs.TestLaws.{and-l, cond-ok}
 use Rattle.laws.proofs.CellLaws.{without-pos, without-lt}
@@ -73,9 +73,14 @@ network-left m x p =
     fuel-same m (width (x .ks)) (suc (width (x .ks))) x (le-refl _) (omega arith) p
     ∙ left-same m (stageTree m (width (x .ks))) (treeOf m) (left x) (d .pos) (λ z lt q. fuel-same m (width (x .ks)) (width (z .ks)) z (omega arith) (le-refl _) q) (width (left x .ks)) refl
 
--- with two conditions left or more, the tree of its choice
-pub chosen-tree : (m : ℕ) (x : Stage) → Positive (x .ks) → 2 ≤ width (left x .ks) → treeOf m x ≡ choiceTree m (treeOf m) (chosen m (left x)) (left x)
-chosen-tree m x p h = network-left m x p ∙ go (width (left x .ks)) h
+-- so by how many conditions are left
+pub built : (m : ℕ) (x : Stage) → Positive (x .ks) → Built m x
+built m x p =
+    record {
+      none-left = λ e. network-left m x p ∙ ap (λ (n : ℕ). leftTree m (treeOf m) n (left x)) e;
+      one-left = λ e. network-left m x p ∙ ap (λ (n : ℕ). leftTree m (treeOf m) n (left x)) e;
+      more-left = λ h. (exact m (left x), network-left m x p ∙ go (width (left x .ks)) h);
+    }
   where
     go : (n : ℕ) → 2 ≤ n → leftTree m (treeOf m) n (left x) ≡ choiceTree m (treeOf m) (chosen m (left x)) (left x)
     go zero h = absurd (omega arith)
@@ -83,4 +88,4 @@ chosen-tree m x p h = network-left m x p ∙ go (width (left x .ks)) h
     go (suc (suc n)) h = refl
 
 pub every-stage : (ks : List ℕ) (m : ℕ) (l : Limits) → Table ks m l → EveryStage ks m l
-every-stage ks m l t x s h = (exact m (left x), chosen-tree m x (stages-ready ks m l t s .pos) h)
+every-stage ks m l t x s = built m x (stages-ready ks m l t s .pos)

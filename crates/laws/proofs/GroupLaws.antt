@@ -305,6 +305,7 @@ module _ (m : ℕ) (y : Stage) where
   exact =
       record {
         splits = ((λ e op s t a. subst Joins e (chosen-joins op s t a)), (λ n. go (chosen m y) best n));
+        admitted = λ op s t e. subst (ChoiceOf (Admits m y)) e chosen-ok;
         largest = λ op s t e s′ t′ p q big a. larger op s t (subst (ChoiceOf Best) e best) s′ t′ p q big a;
       }
     where

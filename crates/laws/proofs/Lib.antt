@@ -1,4 +1,7 @@
 pub mod TestLaws
+pub mod VerdictLaws
+pub mod RefusalLaws
+pub mod RecordLaws
 pub mod TableLaws
 pub mod AcceptLaws
 pub mod ByteLaws

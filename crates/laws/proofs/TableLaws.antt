@@ -31,6 +31,10 @@ pub all-of : (n : ℕ) (p : ℕ → Bool) → ((c : ℕ) → c < n → T (p c)) 
 all-of zero p h = tt
 all-of (suc n) p h = and-i (all n p) (p n) (all-of n p (λ c lt. h c (omega arith))) (h n (le-refl _))
 
+pub all-same : (n : ℕ) (p q : ℕ → Bool) → ((c : ℕ) → c < n → p c ≡ q c) → all n p ≡ all n q
+all-same zero p q h = refl
+all-same (suc n) p q h = ap₂ _&&_ (all-same n p q (λ c lt. h c (omega arith))) (h n (le-refl _))
+
 pub length-tabulateFrom : (f : ℕ → ℕ) (i n : ℕ) → length (tabulateFrom f i n) ≡ n
 length-tabulateFrom f i zero = refl
 length-tabulateFrom f i (suc n) = ap suc (length-tabulateFrom f (suc i) n)

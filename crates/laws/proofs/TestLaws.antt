@@ -1,11 +1,30 @@
--- Tests: conjunctions, choices by a test, cases on a test.
+-- Tests: that they pass, conjunctions, choices by a test, cases on a test.
 use Prim.Native.Nat.{ℕ, _≤_, _<_}
-use mathlib.Core.Path.{_≡_, refl}
+use mathlib.Core.Path.{_≡_, refl, sym, ap, subst}
 use mathlib.Core.Bool.{Bool, true, false, cond, _&&_}
 use borrow.Author.Tests.{leb-true, leb-false}
 use lib.Dec.{T, leb}
 use Rattle.rules.specs.Bytes.{pick}
 
+pub passes : {b : Bool} → b ≡ true → T b
+passes e = subst T (sym e) tt
+
+pub passed : (b : Bool) → T b → b ≡ true
+passed true h = refl
+passed false h = absurd h
+
+pub failed : (b : Bool) → (T b → ⊥) → b ≡ false
+failed true n = absurd (n tt)
+failed false n = refl
+
+-- two tests that pass alike are one
+pub same-test : (a b : Bool) → (T a → T b) → (T b → T a) → a ≡ b
+same-test true true f g = refl
+same-test true false f g = absurd (f tt)
+same-test false true f g = absurd (g tt)
+same-test false false f g = refl
+
+-- conjunctions
 pub and-l : (a b : Bool) → T (a && b) → T a
 and-l true b h = tt
 and-l false b h = h
@@ -17,6 +36,23 @@ and-r false b h = absurd h
 pub and-i : (a b : Bool) → T a → T b → T (a && b)
 and-i true b x y = y
 and-i false b x y = x
+
+pub and-both : {a b : Bool} → a ≡ true → b ≡ true → (a && b) ≡ true
+and-both p q = cc
+
+pub and-pass : {a : Bool} (b : Bool) → a ≡ true → (a && b) ≡ b
+and-pass b p = ap (λ (a : Bool). a && b) p
+
+pub and-left : {a : Bool} (b : Bool) → a ≡ false → (a && b) ≡ false
+and-left b p = ap (λ (a : Bool). a && b) p
+
+pub and-right : (a : Bool) {b : Bool} → b ≡ false → (a && b) ≡ false
+and-right true p = p
+and-right false p = refl
+
+pub and-true : (b : Bool) → b ≡ b && true
+and-true true = refl
+and-true false = refl
 
 pub pick-true : (b : Bool) (x y : ℕ) → T b → pick b x y ≡ x
 pick-true true x y h = refl

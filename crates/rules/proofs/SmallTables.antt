@@ -1,7 +1,13 @@
 -- The small tables hold: antt computes both sides of every row.
 use mathlib.Core.Path.{refl}
 use Rattle.rules.specs.Small.{Small}
+use Rattle.rules.specs.SmallListings.{SmallListings}
 
 pub small-tables : Small
 small-tables =
-    (refl, refl, refl, refl, refl, refl, refl, refl, refl, refl, refl, refl, refl, refl, refl, refl, refl, refl, refl, refl, refl, refl, refl)
+    (refl, refl, refl, refl, refl, refl, refl, refl, refl, refl, refl, refl, refl, refl, refl, refl, refl, refl, refl, refl, refl, refl, refl, refl, refl, refl, refl, refl, refl, refl, refl, refl, refl, refl, refl, refl, refl, refl, refl, refl, refl, refl, refl, refl, refl, refl, refl, refl, refl, refl, refl, refl, refl, refl)
+
+-- So do the listings.
+pub small-listings : SmallListings
+small-listings =
+    (refl, refl, refl, refl, refl, refl, refl, refl, refl, refl, refl, refl, refl, refl, refl, refl, refl, refl, refl, refl, refl, refl, refl, refl)

@@ -1,9 +1,10 @@
 -- Lists of bytes: what stands at a place, tests of every place, and the records of sixteen bytes that both file formats are made of.
 use Prim.Native.Nat.{ℕ, zero, suc, _+_, _-_, _*_}
+use mathlib.Core.Path.{_≡_}
 use mathlib.Core.Bool.{Bool, true, false, _&&_}
 use mathlib.Core.List.{List, [], _∷_}
 use lib.Dec.{eqb}
-use lib.ListN.{getD, take, drop}
+use lib.ListN.{length, getD, take, drop}
 
 -- the first number if the test passes, else the second
 abbrev pub pick : Bool → ℕ → ℕ → ℕ
@@ -44,3 +45,8 @@ zeros r a b = all (b - a) (λ j. eqb (at r (a + j)) 0)
 -- a number of two bytes, the low byte at place j
 abbrev pub word : List ℕ → ℕ → ℕ
 word r j = at r j + 256 * at r (j + 1)
+
+-- a buffer's bytes from n on stay, and so does its length: what is promised of a work buffer, whose bytes before n are free
+pub record Past (n : ℕ) (before after : List ℕ) : Type 0 where
+  pub long : length after ≡ length before
+  pub rest : drop n after ≡ drop n before

@@ -7,13 +7,13 @@ use mathlib.Core.Logic.{_⊎_, _↔_}
 use lib.Dec.{T}
 use lib.ListN.{length}
 use Rattle.rules.specs.declared.Gate.{Gate}
-use Rattle.rules.specs.Bytes.{at}
+use Rattle.rules.specs.Bytes.{at, tabulate}
 use Rattle.rules.specs.Cell.{Blind, Positive, cells, card, present, width, lowest, has}
 use Rattle.rules.specs.Shape.{maxConditions, maxCardinality, maxGrades, maxCells}
 use Rattle.rules.specs.Limits.{Limits}
 use Rattle.rules.specs.Join.{joinExists, firstLimits, secondLimits}
-use Rattle.rules.specs.Network.{Record, combine, networkBytes, networkSound, evaluate}
-use Rattle.rules.specs.Tree.{records}
+use Rattle.rules.specs.Network.{Record, combine, networkBytes, networkRecords, networkSound, evaluate}
+use Rattle.rules.specs.Tree.{fixed, lookup, records}
 use Rattle.rules.specs.Stage.{Stage, left, split, joining, chosen, firstStage, secondStage, cofactorStage, computed, choiceTree, treeOf, wholeTable, compiled}
 
 -- grade q is within the limits of cell c
@@ -95,14 +95,22 @@ pub record Admits (m : ℕ) (y : Stage) (op : Gate) (s t : ℕ) : Type 0 where
 pub record Exact (m : ℕ) (y : Stage) : Type 0 where
   -- a split exactly when no two sets admit a join by either gate
   pub splits : (chosen m y ≡ split) ↔ ((op : Gate) (s t : ℕ) → Admits m y op s t → ⊥)
-  -- a join's sets can't be extended
+  -- the sets of a join admit it
+  pub admitted : (op : Gate) (s t : ℕ) → chosen m y ≡ joining op s t → Admits m y op s t
+  -- and can't be extended
   pub largest : (op : Gate) (s t : ℕ) → chosen m y ≡ joining op s t
       → (s′ t′ : ℕ) → Subset s s′ → Subset t t′ → Larger s s′ ⊎ Larger t t′ → Admits m y op s′ t′ → ⊥
 
--- so in every stage of the table with two or more conditions left, and the stage's tree is the one of that choice
+-- what a stage gives: step 2's record where none or one condition is left, else what its choice starts, and that choice is exact
+pub record Built (m : ℕ) (x : Stage) : Type 0 where
+  pub none-left : width (left x .ks) ≡ 0 → treeOf m x ≡ fixed (at (left x .limits .lower) 0)
+  pub one-left : width (left x .ks) ≡ 1
+      → treeOf m x ≡ lookup (lowest (left x .ks)) (tabulate (card (left x .ks) (lowest (left x .ks))) (at (left x .limits .lower)))
+  pub more-left : 2 ≤ width (left x .ks) → Exact m (left x) × (treeOf m x ≡ choiceTree m (treeOf m) (chosen m (left x)) (left x))
+
+-- so in every stage of the table
 abbrev pub EveryStage : List ℕ → ℕ → Limits → Type 0
-EveryStage ks m l = (x : Stage) → StageOf m (wholeTable ks l) x → 2 ≤ width (left x .ks)
-    → Exact m (left x) × (treeOf m x ≡ choiceTree m (treeOf m) (chosen m (left x)) (left x))
+EveryStage ks m l = (x : Stage) → StageOf m (wholeTable ks l) x → Built m x
 
 -- the records of a table's network
 abbrev pub compiledRecords : List ℕ → ℕ → Limits → List Record
@@ -112,6 +120,7 @@ compiledRecords ks m l = records (compiled ks m l) 0
 pub record Compiled (ks : List ℕ) (m : ℕ) (l : Limits) : Type 0 where
   pub within : Inside ks l (evaluate ks (networkBytes (compiledRecords ks m l)))
   pub sound : T (networkSound ks m (networkBytes (compiledRecords ks m l)))
+  pub reads : networkRecords ks (networkBytes (compiledRecords ks m l)) ≡ compiledRecords ks m l
   pub one : cells ks ≡ 1 → length (compiledRecords ks m l) ≡ 1
   pub most : 2 ≤ cells ks → length (compiledRecords ks m l) ≤ 3 * cells ks - 5
   pub stages : EveryStage ks m l

@@ -15,3 +15,5 @@ pub mod Stage
 pub mod Demands
 pub mod CompileCall
 pub mod Small
+pub mod Listing
+pub mod SmallListings

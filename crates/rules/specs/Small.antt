@@ -1,4 +1,4 @@
--- 01, Small tables to prove, as one conjunction: its rows and edges, and rows that no wrong rule for a stage passes.
+-- 01, Small tables to prove, as one conjunction: its rows and edges, and rows of our own, each of which some wrong rule fails.
 use Prim.Native.Nat.{ℕ, _-_}
 use mathlib.Core.Path.{_≡_}
 use mathlib.Core.Bool.{true, false}
@@ -6,13 +6,17 @@ use mathlib.Core.List.{List, [], _∷_, _++_}
 use lib.ListN.{length, replicate}
 use Rattle.rules.specs.declared.Gate.{Gate}
 use Rattle.rules.specs.declared.Gate.the-variants.{Min, Max}
+use Rattle.rules.specs.Bytes.{tabulate}
 use Rattle.rules.specs.Verdict.{Verdict, accepted, verdictNumber}
 use Rattle.rules.specs.Shape.{places, shapeSound}
 use Rattle.rules.specs.Limits.{Limits}
 use Rattle.rules.specs.Join.{joinFirst, joinSecond}
-use Rattle.rules.specs.Network.{Record, constant, literal, gate}
+use Rattle.rules.specs.TableFile.{Seen, judgeFile, fileLimits}
+use Rattle.rules.specs.Network.{Record, constant, literal, gate, networkBytes, evaluate}
+use Rattle.rules.specs.NetworkCalls.{CheckResult, within, outside, evaluateCall, checkCall}
 use Rattle.rules.specs.Tree.{records, size}
 use Rattle.rules.specs.Stage.{compiled}
+use Rattle.rules.specs.CompileCall.{compileCall}
 
 -- cardinalities as a shape's eight bytes
 abbrev pub cardBytes : List ℕ → List ℕ
@@ -58,6 +62,41 @@ F = limits (1 ∷ 0 ∷ 0 ∷ 0 ∷ 2 ∷ 1 ∷ []) (2 ∷ 1 ∷ 2 ∷ 0 ∷ 2 �
 -- parity of three conditions
 abbrev pub parity : List ℕ
 parity = 0 ∷ 1 ∷ 1 ∷ 0 ∷ 1 ∷ 0 ∷ 0 ∷ 1 ∷ []
+
+-- the refusal of compiling E in buffers of these lengths, under these limits; 0 if none
+abbrev pub compileE : List ℕ → ℕ → ℕ → ℕ
+compileE l work net = verdictNumber (compileCall 2 (cardBytes two) 2 4 4 work net (limits l E))
+
+-- a record of a table file: its first bytes, and zeros; E's file
+abbrev pub fileRecord : List ℕ → List ℕ
+fileRecord r = r ++ replicate (16 - length r) 0
+
+abbrev pub headE : List ℕ
+headE = fileRecord (1 ∷ 0 ∷ 2 ∷ []) ++ fileRecord (1 ∷ 1 ∷ 2 ∷ []) ++ fileRecord (2 ∷ 2 ∷ [])
+
+abbrev pub cellRecordOf : ℕ → ℕ → ℕ → ℕ → List ℕ
+cellRecordOf l u v w = fileRecord (3 ∷ l ∷ u ∷ 0 ∷ 0 ∷ 0 ∷ 0 ∷ 0 ∷ v ∷ w ∷ [])
+
+abbrev pub fileE : List ℕ
+fileE = headE ++ cellRecordOf 0 0 0 0 ++ cellRecordOf 1 1 1 0 ++ cellRecordOf 1 1 0 1 ++ cellRecordOf 0 0 1 1
+
+abbrev pub seenE : Seen
+seenE = record { n = 2; cards = cardBytes two; m = 2; next = 4 }
+
+-- the refusal of a file; 0 if none
+abbrev pub fileNumber : List ℕ → ℕ
+fileNumber file = verdictNumber (judgeFile file)
+
+-- the bytes of E's network
+abbrev pub netE : List ℕ
+netE = networkBytes (exactNetwork two 2 E)
+
+-- the refusal of evaluating a network over E's shape at a cell, and the answer of checking it against limits
+abbrev pub evaluateNumber : List ℕ → ℕ → ℕ → ℕ
+evaluateNumber net work cell = verdictNumber (evaluateCall 2 (cardBytes two) 2 net work cell)
+
+abbrev pub checkE : List ℕ → ℕ → List ℕ → Verdict CheckResult
+checkE net work l = checkCall 2 (cardBytes two) 2 net work (limits l l) 4 4
 
 abbrev pub Small : Type 0
 Small =
@@ -109,3 +148,56 @@ Small =
     -- step 4, the smaller difference: max finds {0, 2, 3} and {1}, min {0, 2} and {1, 3}
     × (network four 2 (0 ∷ 0 ∷ 0 ∷ 1 ∷ 0 ∷ 0 ∷ 1 ∷ 1 ∷ 0 ∷ 1 ∷ 0 ∷ 1 ∷ 1 ∷ 1 ∷ 1 ∷ 1 ∷ []) (0 ∷ 0 ∷ 1 ∷ 1 ∷ 0 ∷ 0 ∷ 1 ∷ 1 ∷ 0 ∷ 1 ∷ 1 ∷ 1 ∷ 1 ∷ 1 ∷ 1 ∷ 1 ∷ [])
     ≡ literal 0 (0 ∷ 1 ∷ []) ∷ literal 2 (0 ∷ 1 ∷ []) ∷ gate Max 0 1 ∷ literal 1 (0 ∷ 1 ∷ []) ∷ literal 3 (0 ∷ 1 ∷ []) ∷ gate Max 3 4 ∷ gate Min 2 5 ∷ [])
+    -- steps 1 and 6 below the first stage: a condition dropped there, and a split on condition 1, of three values, among four grades
+    × (network (2 ∷ 3 ∷ 2 ∷ []) 4 (1 ∷ 0 ∷ 2 ∷ 2 ∷ 1 ∷ 1 ∷ 2 ∷ 0 ∷ 1 ∷ 1 ∷ 1 ∷ 1 ∷ []) (1 ∷ 2 ∷ 2 ∷ 2 ∷ 2 ∷ 3 ∷ 3 ∷ 0 ∷ 1 ∷ 2 ∷ 1 ∷ 1 ∷ [])
+    ≡ literal 0 (2 ∷ 0 ∷ [])
+    ∷ literal 1 (0 ∷ 2 ∷ 1 ∷ [])
+    ∷ gate Max 0 1
+    ∷ literal 1 (3 ∷ 0 ∷ 0 ∷ [])
+    ∷ literal 2 (1 ∷ 2 ∷ [])
+    ∷ gate Min 3 4
+    ∷ literal 1 (0 ∷ 3 ∷ 0 ∷ [])
+    ∷ literal 2 (2 ∷ 1 ∷ [])
+    ∷ gate Min 6 7
+    ∷ gate Max 5 8
+    ∷ literal 1 (0 ∷ 0 ∷ 3 ∷ [])
+    ∷ constant 1
+    ∷ gate Min 10 11
+    ∷ gate Max 9 12
+    ∷ gate Min 2 13
+    ∷ [])
+    -- compiling: work and network of just the lengths asked, a byte less of either, and the order of rows 4, 10, 5
+    × (compileE E 64 112 ≡ 0)
+    × (compileE E 63 112 ≡ 10)
+    × (compileE E 64 111 ≡ 10)
+    × (compileE (0 ∷ 1 ∷ 1 ∷ 1 ∷ []) 63 112 ≡ 10)
+    × (compileE (0 ∷ 1 ∷ 1 ∷ 1 ∷ []) 64 112 ≡ 5)
+    × (verdictNumber (compileCall 4 (cardBytes (8 ∷ 8 ∷ 8 ∷ 3 ∷ [])) 2 0 0 0 0 (limits [] [])) ≡ 4)
+    -- reading: E's file, and one for each refusal, the order of rows 2, 3, 6, 5 among them
+    × (judgeFile fileE ≡ accepted seenE)
+    × (fileLimits fileE seenE ≡ limits E E)
+    × (fileLimits headE seenE ≡ limits (replicate 4 0) (replicate 4 1))
+    × (fileNumber (headE ++ 0 ∷ []) ≡ 1)
+    × (fileNumber (headE ++ fileRecord (4 ∷ [])) ≡ 2)
+    × (fileNumber (fileRecord (3 ∷ 0 ∷ 0 ∷ 0 ∷ 0 ∷ 0 ∷ 0 ∷ 0 ∷ 1 ∷ [])) ≡ 2)
+    × (fileNumber (fileRecord (3 ∷ [])) ≡ 3)
+    × (fileNumber (fileRecord (1 ∷ 0 ∷ 2 ∷ [])) ≡ 3)
+    × (fileNumber (fileRecord (1 ∷ 0 ∷ 9 ∷ [])) ≡ 4)
+    × (fileNumber (headE ++ cellRecordOf 1 0 2 0) ≡ 6)
+    × (fileNumber (headE ++ cellRecordOf 0 0 1 0 ++ cellRecordOf 1 0 1 0) ≡ 6)
+    × (fileNumber (headE ++ cellRecordOf 0 2 0 0) ≡ 5)
+    -- networks: a literal's and a gate's bytes, E's network read back, and the rows of evaluating and checking in their order
+    × (networkBytes (literal 1 (1 ∷ 0 ∷ 2 ∷ []) ∷ gate Max 258 3 ∷ [])
+    ≡ 1 ∷ 1 ∷ 0 ∷ 0 ∷ 0 ∷ 0 ∷ 0 ∷ 0 ∷ 1 ∷ 0 ∷ 2 ∷ 0 ∷ 0 ∷ 0 ∷ 0 ∷ 0 ∷ 3 ∷ 0 ∷ 0 ∷ 0 ∷ 2 ∷ 1 ∷ 3 ∷ 0 ∷ 0 ∷ 0 ∷ 0 ∷ 0 ∷ 0 ∷ 0 ∷ 0 ∷ 0 ∷ [])
+    × (tabulate 4 (evaluate (places (cardBytes two)) netE) ≡ E)
+    × (evaluateNumber [] 0 0 ≡ 11)
+    × (evaluateNumber (replicate 16 9) 0 4 ≡ 10)
+    × (evaluateNumber (replicate 16 9) 1 4 ≡ 11)
+    × (evaluateNumber (networkBytes (literal 0 (0 ∷ 1 ∷ 1 ∷ []) ∷ [])) 1 0 ≡ 11)
+    × (evaluateNumber netE 7 4 ≡ 12)
+    × (evaluateNumber netE 7 3 ≡ 0)
+    × (checkE netE 7 E ≡ accepted within)
+    × (checkE netE 7 (0 ∷ 1 ∷ 0 ∷ 0 ∷ []) ≡ accepted (outside 2 1))
+    × (verdictNumber (checkE (replicate 16 9) 1 (2 ∷ 1 ∷ 1 ∷ 0 ∷ [])) ≡ 5)
+    -- row 7, sets that overlap
+    × (verdictNumber (firstBlock two 2 (limits E E) Max 1 1) ≡ 7)

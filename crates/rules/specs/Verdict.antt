@@ -25,6 +25,23 @@ abbrev pub verdictNumber : {A : Type 0} → Verdict A → ℕ
 verdictNumber (accepted a) = 0
 verdictNumber (refused q) = refusalNumber q
 
+-- what an answer says: 01's number of its refusal, 0 where the call is accepted, and the values that come with it. Each enum that a call answers has
+-- a definition that gives this for each of its cases
+pub record Answer : Type 0 where
+  pub number : ℕ
+  pub values : List ℕ
+
+abbrev pub granted : List ℕ → Answer
+granted values = record { number = 0; values = values }
+
+abbrev pub denied : Refusal → Answer
+denied q = record { number = refusalNumber q; values = [] }
+
+-- the answer that a verdict asks for
+abbrev pub answerOf : {A : Type 0} → (A → List ℕ) → Verdict A → Answer
+answerOf values (accepted a) = granted (values a)
+answerOf values (refused q) = denied q
+
 -- row 10: every lent buffer, by its length, holds n bytes
 abbrev pub roomy : ℕ → List ℕ → Bool
 roomy n [] = true

@@ -2,6 +2,14 @@
 ghost use mathlib.Core.Path.{_≡_};
 ghost use Rattle.rules.specs.Refusal.{refusalNumber};
 
+pub mod kinds;
+
+// The bytes of a record, in table files and in networks.
+pub const RECORD: usize = 16;
+
+// The places of a shape: one for each condition that there can be.
+pub const PLACES: usize = 8;
+
 // 01, Joins: the gate that combines two blocks, and the gate of a network's record.
 pub enum Gate {
     Min,

@@ -1,0 +1,37 @@
+-- Verdicts: a row that was passed, one that stops a call; that no call is both accepted and refused, and no check both within and outside.
+use Prim.Native.Nat.{ℕ}
+use mathlib.Core.Path.{_≡_, refl, ap}
+use mathlib.Core.Bool.{Bool, true, false}
+use native.Mathlib.Omega.{arith}
+use Rattle.rules.specs.declared.Refusal.{Refusal}
+use Rattle.rules.specs.Verdict.{Verdict, accepted, refused, unless, andThen}
+use Rattle.rules.specs.NetworkCalls.{within, outside}
+
+pub refused-accepted : {A P : Type 0} {q : Refusal} {x : A} → _≡_ {A = Verdict A} (refused q) (accepted x) → P
+refused-accepted e = let z : _≡_ {A = ℕ} 0 1 = cc in absurd (omega arith)
+
+pub outside-within : {P : Type 0} {c q : ℕ} → outside c q ≡ within → P
+outside-within e = let z : _≡_ {A = ℕ} 0 1 = cc in absurd (omega arith)
+
+pub accepted-same : {A : Type 0} {x y : A} → _≡_ {A = Verdict A} (accepted x) (accepted y) → x ≡ y
+accepted-same e = cc
+
+pub refused-same : {A : Type 0} {q r : Refusal} → _≡_ {A = Verdict A} (refused q) (refused r) → q ≡ r
+refused-same e = cc
+
+-- a row whose test is known
+pub row-pass : {A : Type 0} {b : Bool} (q : Refusal) (v : Verdict A) → b ≡ true → unless b q v ≡ v
+row-pass q v e = ap (λ (b : Bool). unless b q v) e
+
+pub row-stop : {A : Type 0} {b : Bool} (q : Refusal) (v : Verdict A) → b ≡ false → unless b q v ≡ refused q
+row-stop q v e = ap (λ (b : Bool). unless b q v) e
+
+-- a row that did not stop the call
+pub row-passed : {A : Type 0} (b : Bool) (q : Refusal) (v : Verdict A) {x : A} → unless b q v ≡ accepted x → (b ≡ true) × (v ≡ accepted x)
+row-passed true q v e = (refl, e)
+row-passed false q v e = refused-accepted e
+
+-- a last row that did not stop the call
+pub last-passed : {A : Type 0} (v : Verdict A) (test : A → Bool) (q : Refusal) {x : A} → andThen v (λ y. unless (test y) q (accepted y)) ≡ accepted x → v ≡ accepted x
+last-passed (accepted y) test q e = row-passed (test y) q (accepted y) e .1
+last-passed (refused p) test q e = refused-accepted e

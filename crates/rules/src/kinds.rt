@@ -1,0 +1,15 @@
+// Byte 0 of a record says its kind. In a table file:
+pub const CONDITION: u8 = 1;
+
+pub const GRADES: u8 = 2;
+
+pub const CELL: u8 = 3;
+
+// In a network:
+pub const CONSTANT: u8 = 0;
+
+pub const LITERAL: u8 = 1;
+
+pub const MIN: u8 = 2;
+
+pub const MAX: u8 = 3;
