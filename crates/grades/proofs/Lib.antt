@@ -1,2 +1,2 @@
 -- What several proofs use.
-pub mod ListingLaws
+pub mod AnswerLaws

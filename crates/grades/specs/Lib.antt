@@ -1,0 +1,2 @@
+-- What the contracts of `grades` cite.
+pub mod Answering

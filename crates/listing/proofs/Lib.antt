@@ -1,0 +1,4 @@
+-- Laws of text and numbers.
+pub mod DecimalLaws
+pub mod PutLaws
+pub mod KindLaws
