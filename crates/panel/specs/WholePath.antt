@@ -1,0 +1,44 @@
+-- From a table file to a grade: what holds of a C program that reads a file, compiles the table that it holds, and evaluates or checks the network.
+-- Of each call nothing is used but its promise.
+use Prim.Native.Nat.{ℕ, _*_, _≤_, _<_}
+use mathlib.Core.Path.{_≡_}
+use mathlib.Core.List.{List}
+use lib.ListN.{length, take}
+use Rattle.rules.specs.Cell.{cells}
+use Rattle.rules.specs.Shape.{places}
+use Rattle.rules.specs.Verdict.{accepted}
+use Rattle.rules.specs.TableFile.{Seen, judgeFile, fileLimits}
+use Rattle.rules.specs.CompileCall.{mostRecords}
+use Rattle.rules.specs.Demands.{Between}
+use Rattle.panel_answers.specs.Answers.{lentCells}
+use Rattle.panel.specs.Reads.{Reads}
+use Rattle.panel.specs.Compiles.{Compiles}
+use Rattle.panel.specs.Checks.{Checks}
+use Rattle.panel.specs.Evaluates.{Evaluates}
+
+-- what reading has written: ten bytes of shape and the limits; and what compiling these has: n records at the front of the network buffer
+module _ (file shape lower upper : List ℕ) (n : ℕ) (network : List ℕ) where
+  abbrev pub shapeLent : List ℕ
+  shapeLent = take 10 shape
+
+  abbrev pub networkLent : List ℕ
+  networkLent = take (16 * n) network
+
+  pub record Followed : Type 0 where
+    -- the table that the file holds
+    pub table : Seen
+    pub holds : judgeFile file ≡ accepted table
+    -- compiling did not refuse it
+    pub compiled : n < 65536
+    -- evaluated at any cell, the network gives a grade within the file's limits of that cell
+    pub evaluated : (cell : ℕ) → cell < cells (places (table .cards)) → (work after : List ℕ) (grade : ℕ) → n ≤ length work
+        → Evaluates networkLent shapeLent cell work after grade → Between (fileLimits file table) cell grade
+    -- a check of it against the limits that were read finds every cell within
+    pub checked : (work after : List ℕ) (answer : ℕ) → n ≤ length work → Checks networkLent shapeLent lower upper work answer after → answer ≡ 0
+
+-- a file that reading accepts, whatever the buffers held before, and compiling with room for the table that it holds
+abbrev pub WholePath : Type 0
+WholePath = (file shape lower upper shape′ lower′ upper′ : List ℕ) → Reads file shape lower upper 0 shape′ lower′ upper′
+    → (work network work′ network′ : List ℕ) (n : ℕ) → 16 * lentCells (take 10 shape′) ≤ length work → 16 * mostRecords (lentCells (take 10 shape′)) ≤ length network
+    → Compiles (take 10 shape′) lower′ upper′ work network n work′ network′
+    → Followed file shape′ lower′ upper′ n network′
