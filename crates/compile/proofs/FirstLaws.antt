@@ -17,18 +17,17 @@ use Rattle.rules.specs.Stage.{Stage, treeOf, wholeTable, compiled}
 use Rattle.rules.specs.Demands.{Table}
 use Rattle.rules.specs.CompileCall.{mostRecords, compileRoom, lentLimits}
 use Rattle.laws.proofs.CellLaws.{cells-pos}
-use Rattle.laws.proofs.TestLaws.{and-l, and-r, pick-ok, by-order}
+use Rattle.laws.proofs.TestLaws.{and-l, and-r, pick-ok, by-order, passes}
 use Rattle.laws.proofs.ByteLaws.{length-networkBytes}
 use Rattle.laws.proofs.TreeLaws.{length-records}
 use Rattle.laws.proofs.SizeLaws.{compiled-size}
 use Rattle.tables.specs.Part.{part, Laid}
 use Rattle.tables.proofs.PartLaws.{part-at, part-length, laid-front}
 use Rattle.grouping.specs.Joining.{stageAt}
-use Rattle.stage_tables.specs.Working.{Proper}
+use Rattle.stage_drops.specs.Working.{Proper}
 use Rattle.stages.specs.Staging.{Written, Fits, Starts}
 use Rattle.shape.specs.declared.Shape.{Shape}
 use Rattle.shape.specs.Shapes.{placesOf}
-use Rattle.join.proofs.RowLaws.{passes}
 use Rattle.compile.specs.Compiling.{Accepted, Recorded}
 use Rattle.compile.proofs.RowLaws.{table}
 

@@ -2,7 +2,7 @@
 use Prim.Native.Nat.{ℕ, _*_, _≤_}
 use mathlib.Core.Path.{_≡_, refl, sym, _∙_, ap, ap₂, subst}
 use mathlib.Core.Bool.{Bool, true, false, _&&_}
-use mathlib.Core.List.{List}
+use mathlib.Core.List.{List, [], _∷_}
 use native.Mathlib.Omega.{arith}
 use lib.Dec.{T, leb, ltb}
 use lib.ListN.{length, take, drop}
@@ -12,28 +12,32 @@ use Rattle.rules.specs.declared.Refusal.the-variants.{ShapeRange, GradeLimits, 
 use Rattle.rules.specs.Bytes.{at, all}
 use Rattle.rules.specs.Cell.{cells}
 use Rattle.rules.specs.Limits.{Limits, limitsSound}
-use Rattle.rules.specs.Verdict.{Verdict, accepted, refused, unless}
+use Rattle.rules.specs.Verdict.{Verdict, accepted, refused, unless, answerOf}
 use Rattle.rules.specs.Network.{Record, networkBytes, networkSound, evaluate}
 use Rattle.rules.specs.Demands.{Table, Between, compiledRecords}
 use Rattle.rules.specs.CompileCall.{compileRoom, lentLimits}
 use Rattle.laws.proofs.AcceptLaws.{places-positive, few-cells, accepted-table}
 use Rattle.laws.proofs.CellLaws.{cells-pos}
-use Rattle.laws.proofs.ByteLaws.{length-networkBytes}
+use Rattle.laws.proofs.ByteLaws.{length-networkBytes, past-same}
 use Rattle.laws.proofs.CompiledLaws.{compiled-all}
+use Rattle.laws.proofs.TableLaws.{all-same}
+use Rattle.laws.proofs.TestLaws.{passes}
 use Rattle.shape.specs.declared.Shape.{Shape}
 use Rattle.shape.specs.Shapes.{cardsOf, placesOf, isSound}
 use Rattle.shape.proofs.ShapeLaws.{eight-cards}
-use Rattle.join.proofs.StepLaws.{all-same}
-use Rattle.join.proofs.RowLaws.{passes}
 use Rattle.compile.specs.declared.CompileAnswer.the-variants.{Records, Refused}
-use Rattle.compile.specs.Compiling.{compileAnswer, networkAfter, compileRows, Demand3, Compiles, Accepted, Recorded}
+use Rattle.compile.specs.Compiling.{compileAnswer, networkAfter, compileRows, KeepsTable, Compiles, Accepted, Recorded, compileMeans}
 
 -- two answers
-records-refused : {A : Type 0} {n : ℕ} {r : Refusal} → Records n ≡ Refused r → A
+pub records-refused : {A : Type 0} {n : ℕ} {r : Refusal} → Records n ≡ Refused r → A
 records-refused e = let z : _≡_ {A = ℕ} 0 1 = cc in absurd (omega arith)
 
-records-same : {n k : ℕ} → Records n ≡ Records k → n ≡ k
+pub records-same : {n k : ℕ} → Records n ≡ Records k → n ≡ k
 records-same e = cc
+
+compile-means : (v : Verdict (List Record)) → compileMeans (compileAnswer v) ≡ answerOf (λ rs. length rs ∷ []) v
+compile-means (accepted rs) = refl
+compile-means (refused q) = refl
 
 -- row 5 reads the limits of the table's cells only
 pub limits-row : (ks lower upper : List ℕ) (m : ℕ)
@@ -76,10 +80,11 @@ module _ (shape : Shape) (lower upper work network : List ℕ) where
   stops r e =
       record {
         answers = sym (ap compileAnswer e);
+        means = ap compileMeans (sym (ap compileAnswer e)) ∙ compile-means (compileRows shape lower upper work network);
         network-after = sym (ap (λ (v : Verdict (List Record)). networkAfter v network) e);
         refusal-keeps = λ q h. refl;
-        kept = record { long = refl; rest = refl };
-        demand = λ n h. records-refused (sym h);
+        kept = past-same;
+        keeps-table = λ n h. records-refused (sym h);
       }
 
   pub shape-stop : isSound shape ≡ false → Compiles shape lower upper work network (Refused ShapeRange) work network
@@ -107,8 +112,8 @@ module _ (shape : Shape) (lower upper work network : List ℕ) where
           ap (take (16 * n)) (w .bytes)
           ∙ take-at (networkBytes rs) (drop (16 * length rs) network) (16 * n) (length-networkBytes rs ∙ ap (λ (k : ℕ). 16 * k) (sym (w .count)))
 
-      demand3 : Demand3 shape lower upper n network′
-      demand3 =
+      table-kept : KeepsTable shape lower upper n network′
+      table-kept =
           let d = compiled-all ks (shape .m) l table in
           record {
             compiled = d;
@@ -126,8 +131,9 @@ module _ (shape : Shape) (lower upper work network : List ℕ) where
       writes =
           record {
             answers = ap Records (w .count) ∙ sym (ap compileAnswer rows);
+            means = ap compileMeans (ap Records (w .count) ∙ sym (ap compileAnswer rows)) ∙ compile-means (compileRows shape lower upper work network);
             network-after = w .bytes ∙ sym (ap (λ (v : Verdict (List Record)). networkAfter v network) rows);
             refusal-keeps = λ q h. records-refused h;
             kept = w .kept;
-            demand = λ k h. subst (λ (j : ℕ). Demand3 shape lower upper j network′) (records-same h) demand3;
+            keeps-table = λ k h. subst (λ (j : ℕ). KeepsTable shape lower upper j network′) (records-same h) table-kept;
           }

@@ -2,16 +2,17 @@
 use Prim.Native.Nat.{ℕ, _-_, _*_, _≤_}
 use mathlib.Core.Path.{_≡_}
 use mathlib.Core.Bool.{true}
-use mathlib.Core.List.{List, _++_}
+use mathlib.Core.List.{List, _++_, [], _∷_}
 use lib.Dec.{T}
 use lib.ListN.{length, take, drop}
 use Rattle.rules.specs.declared.Refusal.{Refusal}
 use Rattle.rules.specs.Cell.{cells}
 use Rattle.rules.specs.Limits.{limitsOf, limitsSound}
-use Rattle.rules.specs.Verdict.{Verdict, accepted, refused}
+use Rattle.rules.specs.Verdict.{Verdict, accepted, refused, Answer, granted, denied, answerOf}
 use Rattle.rules.specs.Network.{Record, networkBytes, networkSound, evaluate}
 use Rattle.rules.specs.Demands.{Inside, EveryStage, compiledRecords, Compiled}
 use Rattle.rules.specs.CompileCall.{compileRoom, lentLimits, compileCall}
+use Rattle.rules.specs.Bytes.{Past}
 use Rattle.shape.specs.declared.Shape.{Shape}
 use Rattle.shape.specs.Shapes.{cardsOf, placesOf, isSound}
 use Rattle.compile.specs.declared.CompileAnswer.{CompileAnswer}
@@ -22,15 +23,15 @@ abbrev pub compileAnswer : Verdict (List Record) → CompileAnswer
 compileAnswer (accepted rs) = Records (length rs)
 compileAnswer (refused r) = Refused r
 
+-- what it says in 01's numbers
+abbrev pub compileMeans : CompileAnswer → Answer
+compileMeans (Records n) = granted (n ∷ [])
+compileMeans (Refused r) = denied r
+
 -- the network buffer after it: the records and what lay behind them, or all as it was
 abbrev pub networkAfter : Verdict (List Record) → List ℕ → List ℕ
 networkAfter (accepted rs) network = networkBytes rs ++ drop (16 * length rs) network
 networkAfter (refused r) network = network
-
--- the bytes of the work buffer past sixteen for each cell stay
-pub record Kept (shape : Shape) (work after : List ℕ) : Type 0 where
-  pub long : length after ≡ length work
-  pub rest : drop (16 * cells (placesOf shape)) after ≡ drop (16 * cells (placesOf shape)) work
 
 -- the rows of document 01 for compiling
 abbrev pub compileRows : Shape → List ℕ → List ℕ → List ℕ → List ℕ → Verdict (List Record)
@@ -44,7 +45,7 @@ written n network = take (16 * n) network
 -- demand 3 of a table and the n records that stand in the network buffer. It holds of the records that the table's stages give, and
 -- these are the bytes of those: so every cell's grade, as evaluation reads the bytes, is within the cell's limits, no record is faulty,
 -- and there are no more of them than 01 allows
-pub record Demand3 (shape : Shape) (lower upper : List ℕ) (n : ℕ) (network : List ℕ) : Type 0 where
+pub record KeepsTable (shape : Shape) (lower upper : List ℕ) (n : ℕ) (network : List ℕ) : Type 0 where
   pub compiled : Compiled (placesOf shape) (shape .m) (lentLimits (placesOf shape) lower upper)
   pub bytes : written n network ≡ networkBytes (compiledRecords (placesOf shape) (shape .m) (lentLimits (placesOf shape) lower upper))
   pub within : Inside (placesOf shape) (limitsOf lower upper) (evaluate (placesOf shape) (written n network))
@@ -57,10 +58,11 @@ pub record Demand3 (shape : Shape) (lower upper : List ℕ) (n : ℕ) (network :
 -- work buffer too, and nothing changes its length or its bytes past sixteen for each cell; records are what demand 3 asks for
 pub record Compiles (shape : Shape) (lower upper work network : List ℕ) (answer : CompileAnswer) (work′ network′ : List ℕ) : Type 0 where
   pub answers : answer ≡ compileAnswer (compileRows shape lower upper work network)
+  pub means : compileMeans answer ≡ answerOf (λ rs. length rs ∷ []) (compileRows shape lower upper work network)
   pub network-after : network′ ≡ networkAfter (compileRows shape lower upper work network) network
   pub refusal-keeps : (r : Refusal) → answer ≡ Refused r → work′ ≡ work
-  pub kept : Kept shape work work′
-  pub demand : (n : ℕ) → answer ≡ Records n → Demand3 shape lower upper n network′
+  pub kept : Past (16 * cells (placesOf shape)) work work′
+  pub keeps-table : (n : ℕ) → answer ≡ Records n → KeepsTable shape lower upper n network′
 
 -- a call that no row stops
 pub record Accepted (shape : Shape) (lower upper work network : List ℕ) : Type 0 where
@@ -72,4 +74,4 @@ pub record Accepted (shape : Shape) (lower upper work network : List ℕ) : Type
 pub record Recorded (shape : Shape) (lower upper work network : List ℕ) (n : ℕ) (work′ network′ : List ℕ) : Type 0 where
   pub count : n ≡ length (compiledRecords (placesOf shape) (shape .m) (lentLimits (placesOf shape) lower upper))
   pub bytes : network′ ≡ networkAfter (accepted (compiledRecords (placesOf shape) (shape .m) (lentLimits (placesOf shape) lower upper))) network
-  pub kept : Kept shape work work′
+  pub kept : Past (16 * cells (placesOf shape)) work work′

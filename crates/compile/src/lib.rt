@@ -3,6 +3,7 @@ ghost use Prim.Native.Nat.{_≤_};
 ghost use mathlib.Core.Path.{_≡_};
 ghost use Rattle.rules.specs.CompileCall.{mostRecords, compileRoom};
 ghost use Rattle.compile.specs.Compiling.{Accepted, Recorded, Compiles};
+use rules::RECORD;
 use rules::Refusal;
 use shape::Shape;
 use tables::fill;
@@ -15,8 +16,6 @@ pub enum CompileAnswer {
 }
 
 // The bytes of a record, and those of the work buffer for each cell.
-const RECORD: usize = 16;
-
 const WORK: usize = 16;
 
 // Writes the network of a table. The work buffer has 16 bytes for each cell, the network buffer 16

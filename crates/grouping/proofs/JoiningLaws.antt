@@ -1,69 +1,21 @@
--- Tests of every cell, and the rules that they decide.
-use Prim.Native.Nat.{ℕ, zero, suc, _+_, _<_, max}
-use mathlib.Core.Path.{_≡_, refl, sym, _∙_, ap, ap₂}
-use mathlib.Core.Bool.{Bool, true, false, _&&_}
+-- Tests of joins at every cell, and the rules that they decide.
+use Prim.Native.Nat.{ℕ, _+_, _<_, max}
+use mathlib.Core.Path.{_≡_, sym, _∙_, ap, ap₂}
+use mathlib.Core.Bool.{Bool, true, false}
 use mathlib.Core.List.{List}
-use native.Mathlib.Nat.{le-trans, max-comm}
-use native.Mathlib.Omega.{arith}
-use lib.Dec.{T, leb, leb→le, le→leb}
+use native.Mathlib.Nat.{max-comm}
+use lib.Dec.{leb}
 use Rattle.rules.specs.Bytes.{at, all}
-use Rattle.rules.specs.Cell.{Positive, cells, singleton, insert, leastOver, greatestOver}
-use Rattle.rules.specs.Stage.{fits, merged}
+use Rattle.rules.specs.Cell.{Positive, cells, singleton, insert, leastOver}
 use Rattle.laws.proofs.LineLaws.{over-insert}
-use Rattle.laws.proofs.OverLaws.{max-bound, min-bound, over-self, over-least, over-blind}
+use Rattle.laws.proofs.OverLaws.{min-bound}
 use Rattle.tables.specs.Part.{part, Shaped}
-use Rattle.tables.specs.Line.{lineBest}
+use Rattle.tables.specs.Line.{lineBest, lineStart}
 use Rattle.tables.proofs.PartLaws.{part-at}
-use Rattle.laws.proofs.TableLaws.{all-at, all-of, all-false}
-use Rattle.tables.proofs.ScanLaws.{all-passed}
-use Rattle.grouping.specs.Joining.{lineStart, stageAt, joins, joinsAt, admits}
-use Rattle.grouping.proofs.LeastLaws.{Axis, least-at}
-
--- a scan by the test q, which is p at each of n cells
-module _ {n : ℕ} {p q : ℕ → Bool} (same : (k : ℕ) → k < n → q k ≡ p k) where
-  scan-passed : {c : ℕ} → c ≡ n → ((k : ℕ) → k < c → q k ≡ true) → true ≡ all n p
-  scan-passed {c} e h = sym (all-passed n p e (λ k l. sym (same k (omega arith)) ∙ h k l))
-
-  scan-failed : (k : ℕ) → k < n → q k ≡ false → false ≡ all n p
-  scan-failed k h e = sym (all-false n p k h (sym (same k h) ∙ e))
-
--- two tests of which each gives the other
-iff : (a b : Bool) → (T a → T b) → (T b → T a) → a ≡ b
-iff true true f g = refl
-iff true false f g = absurd (f tt)
-iff false true f g = absurd (g tt)
-iff false false f g = refl
-
--- the test of a drop, cell by cell
-abbrev pub dropCell : List ℕ → ℕ → ℕ → ℕ → ℕ → ℕ → Bool
-dropCell w low high stp crd k = leb (at w (low + k)) (lineBest false w (lineStart high k stp crd) stp crd)
-
-module _ (w : List ℕ) {ks : List ℕ} {i : ℕ} (low high : ℕ) {stp crd : ℕ} (shaped : Shaped ks) (x : Axis ks i stp crd) where
-  drop-same : (k : ℕ) → k < cells ks → dropCell w low high stp crd k ≡ leb (at (part w low (cells ks)) k) (at (leastOver ks (singleton i) (part w high (cells ks))) k)
-  drop-same k h = ap₂ leb (sym (part-at w low (cells ks) k h)) (least-at shaped x w high k h)
-
-  -- a table is below one that is blind to i where its greatest over i is
-  drop-is : all (cells ks) (λ k. leb (at (part w low (cells ks)) k) (at (leastOver ks (singleton i) (part w high (cells ks))) k)) ≡ fits ks (merged i (stageAt ks w low high))
-  drop-is =
-      let l = part w low (cells ks) in
-      let g = greatestOver ks (singleton i) l in
-      let u = leastOver ks (singleton i) (part w high (cells ks)) in
-      iff (all (cells ks) (λ k. leb (at l k) (at u k))) (all (cells ks) (λ k. leb (at g k) (at u k)))
-      (λ t.
-      all-of (cells ks) (λ k. leb (at g k) (at u k))
-      (λ c hc.
-      le→leb _ _
-      (over-least max-bound ks (singleton i) l (at u) (over-blind min-bound ks (singleton i) (part w high (cells ks)))
-      (λ d hd. leb→le _ _ (all-at (cells ks) (λ k. leb (at l k) (at u k)) t d hd)) c hc)))
-      (λ t.
-      all-of (cells ks) (λ k. leb (at l k) (at u k))
-      (λ c hc. le→leb _ _ (le-trans (over-self max-bound ks (singleton i) l c hc) (leb→le _ _ (all-at (cells ks) (λ k. leb (at g k) (at u k)) t c hc)))))
-
-  pub drop-passed : {c : ℕ} → c ≡ cells ks → ((k : ℕ) → k < c → dropCell w low high stp crd k ≡ true) → true ≡ fits ks (merged i (stageAt ks w low high))
-  drop-passed e h = scan-passed drop-same e h ∙ drop-is
-
-  pub drop-failed : (k : ℕ) → k < cells ks → dropCell w low high stp crd k ≡ false → false ≡ fits ks (merged i (stageAt ks w low high))
-  drop-failed k h e = scan-failed drop-same k h e ∙ drop-is
+use Rattle.laws.proofs.TableLaws.{all-same}
+use Rattle.tables.proofs.ScanLaws.{scan-passed, scan-failed}
+use Rattle.grouping.specs.Joining.{joins, joinsAt, admits}
+use Rattle.tables.proofs.LeastLaws.{Axis, least-at}
 
 -- the test of a pair, cell by cell: i's step and cardinality, then j's
 abbrev pub pairCell : List ℕ → ℕ → ℕ → ℕ → ℕ → ℕ → ℕ → ℕ → Bool
@@ -112,11 +64,7 @@ admits-joins ks i l u keep grow s t p ek eg =
     inserted : admits ks i l (leastOver ks t u) (leastOver ks s u) ≡ joins ks l u (insert s i) t
     inserted = ap (λ (g : List ℕ). all (cells ks) (λ c. leb (at l c) (max (at (leastOver ks t u) c) (at g c)))) (over-insert min-bound ks u s i p)
 
-all-same : (n : ℕ) (p q : ℕ → Bool) → ((k : ℕ) → p k ≡ q k) → all n p ≡ all n q
-all-same zero p q h = refl
-all-same (suc n) p q h = ap₂ _&&_ (all-same n p q h) (h n)
-
 -- the sets of a join in either order
 pub joins-turn : (ks l u : List ℕ) (s t : ℕ) → joins ks l u s t ≡ joins ks l u t s
 unfolding joins
-joins-turn ks l u s t = all-same (cells ks) _ _ (λ c. ap (leb (at l c)) (max-comm (at (leastOver ks t u) c) (at (leastOver ks s u) c)))
+joins-turn ks l u s t = all-same (cells ks) _ _ (λ c h. ap (leb (at l c)) (max-comm (at (leastOver ks t u) c) (at (leastOver ks s u) c)))

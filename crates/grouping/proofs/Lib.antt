@@ -1,5 +1,4 @@
 -- What several proofs use.
-pub mod LeastLaws
 pub mod JoiningLaws
 pub mod SearchLaws
 pub mod KeptLaws

@@ -1,5 +1,5 @@
 -- Tests of joins on tables that are parts of one buffer.
-use Prim.Native.Nat.{ℕ, _+_, _*_, _/_, _%_, _≤_, max}
+use Prim.Native.Nat.{ℕ, _+_, _≤_, max}
 use mathlib.Core.Bool.{Bool}
 use mathlib.Core.List.{List}
 use lib.Dec.{leb}
@@ -9,16 +9,6 @@ use Rattle.rules.specs.Cell.{cells, singleton, leastOver}
 use Rattle.rules.specs.Join.{maxExists}
 use Rattle.rules.specs.Stage.{Stage}
 use Rattle.tables.specs.Part.{part, Shaped}
-use Rattle.tables.specs.Line.{Line}
-
--- where the line through cell c of the table at a starts
-abbrev pub lineStart : ℕ → ℕ → ℕ → ℕ → ℕ
-lineStart a c step card = a + (c % step + c / (step * card) * (step * card))
-
--- that line lies within the buffer, and its block is small
-pub record LineAt (w : List ℕ) (a c step card : ℕ) : Type 0 where
-  pub line : Line w (lineStart a c step card) step card
-  pub few : step * card ≤ 1024
 
 -- two tables over the places ks
 pub record Tables (w ks : List ℕ) (a b : ℕ) : Type 0 where

@@ -3,6 +3,7 @@
 use crate::Sets;
 use crate::joins;
 use places::sets;
+use rules::PLACES;
 use tables::extremes;
 use tables::fill;
 ghost use Prim.Native.Nat.{_<_};
@@ -15,7 +16,7 @@ ghost use Rattle.rules.specs.Stage.{addCondition, grow};
 ghost use Rattle.grouping.specs.Growing.{setsOf, Space, Started, Tried, Grows, inOrder};
 
 // The table at `from` taken over condition i, at `to`.
-fn least_over(w: &mut [u8], ks: [u8; 8], i: usize, from: usize, to: usize)
+fn least_over(w: &mut [u8], ks: [u8; PLACES], i: usize, from: usize, to: usize)
     requires { ⌜ (i < 8) × Shaped ks × Two (now w) from to (cells ks) ⌝ }
     ensures { λ _. ⌜ Laid (now (w .entry)) to (leastOver ks (singleton i) (part (now (w .entry)) from (cells ks))) (cells ks) (now (w .exit)) ⌝ }
 {
@@ -25,7 +26,15 @@ fn least_over(w: &mut [u8], ks: [u8; 8], i: usize, from: usize, to: usize)
 }
 
 // The tables of the sets of i alone and of j alone.
-pub fn start_sets(w: &mut [u8], ks: [u8; 8], i: usize, j: usize, high: usize, a: usize, b: usize)
+pub fn start_sets(
+    w: &mut [u8],
+    ks: [u8; PLACES],
+    i: usize,
+    j: usize,
+    high: usize,
+    a: usize,
+    b: usize,
+)
     requires { ⌜ (i < 8) × (j < 8) × Space (now w) ks high a b ⌝ }
     ensures { λ _. ⌜ Started (now (w .entry)) ks i j high a b (now (w .exit)) ⌝ }
 {
@@ -34,7 +43,7 @@ pub fn start_sets(w: &mut [u8], ks: [u8; 8], i: usize, j: usize, high: usize, a:
 }
 
 // Adds condition i to the set whose table is at `grow`, if that may be: whether it was.
-fn try_add(w: &mut [u8], ks: [u8; 8], i: usize, low: usize, keep: usize, grow: usize) -> bool
+fn try_add(w: &mut [u8], ks: [u8; PLACES], i: usize, low: usize, keep: usize, grow: usize) -> bool
     requires { ⌜ (i < 8) × Space (now w) ks low keep grow ⌝ }
     ensures { λ r. ⌜ Tried (now (w .entry)) ks i low keep grow r (now (w .exit)) ⌝ }
 {
@@ -48,7 +57,7 @@ fn try_add(w: &mut [u8], ks: [u8; 8], i: usize, low: usize, keep: usize, grow: u
 // Adds condition i to s, failing that to t, failing that to neither.
 fn add_in_order(
     w: &mut [u8],
-    ks: [u8; 8],
+    ks: [u8; PLACES],
     found: Sets,
     i: usize,
     low: usize,
@@ -79,7 +88,7 @@ fn add_in_order(
 // s when equal.
 pub fn add_condition(
     w: &mut [u8],
-    ks: [u8; 8],
+    ks: [u8; PLACES],
     found: Sets,
     i: usize,
     low: usize,
@@ -111,12 +120,12 @@ pub fn add_condition(
 }
 
 // Adds each condition in turn.
-pub fn grow(w: &mut [u8], ks: [u8; 8], found: Sets, low: usize, a: usize, b: usize) -> Sets
+pub fn grow(w: &mut [u8], ks: [u8; PLACES], found: Sets, low: usize, a: usize, b: usize) -> Sets
     requires { ⌜ Space (now w) ks low a b ⌝ }
     ensures { λ r. ⌜ Grows (now (w .entry)) ks low a b (found .s) (found .t) (λ js. grow (present ks) js (numbersFrom 0 8) (setsOf found)) (r .s) (r .t) (now (w .exit)) ⌝ }
 {
     let mut grown = found;
-    for i in 0..8 {
+    for i in 0..PLACES {
         grown = add_condition(w, ks, grown, i, low, a, b);
     }
     grown

@@ -1,42 +1,14 @@
-// Tests of drops and joins. None writes, and each stops at the first cell that refuses.
+// Tests of joins. None writes, and each stops at the first cell that refuses.
+use rules::PLACES;
 use tables::extremes;
 ghost use Prim.Native.Nat.{_<_};
 ghost use mathlib.Core.Path.{_≡_};
 ghost use Rattle.rules.specs.Cell.{cells, singleton};
-ghost use Rattle.rules.specs.Stage.{fits, merged};
-ghost use Rattle.tables.specs.Line.{lineBest};
 ghost use Rattle.tables.specs.Part.{part};
-ghost use Rattle.grouping.specs.Joining.{lineStart, LineAt, Tables, stageAt, joinsAt, admits};
-ghost use mathlib.Core.Bool.{false};
-
-// The least grade along the line through cell c of a table: the cells that are step apart, card of
-// them.
-fn least_at(w: &[u8], table: usize, c: usize, step: usize, card: usize) -> u8
-    requires { ⌜ LineAt (now w) table c step card ⌝ }
-    ensures { λ r. ⌜ r ≡ lineBest false (now (w .entry)) (lineStart table c step card) step card ⌝ }
-{
-    let block = step * card;
-    extremes::line_extreme(w, false, table + (c % step + c / block * block), step, card)
-}
-
-// Whether condition i can be dropped: no lower grade is above the least upper grade over it.
-pub fn can_drop(w: &[u8], ks: [u8; 8], i: usize, low: usize, high: usize) -> bool
-    requires { ⌜ (i < 8) × Tables (now w) ks low high ⌝ }
-    ensures { λ r. ⌜ r ≡ fits ks (merged i (stageAt ks (now (w .entry)) low high)) ⌝ }
-{
-    let n = places::cell_count(ks);
-    let step = places::step(ks, i);
-    let card = ks[i] as usize;
-    for c in 0..n {
-        if least_at(w, high, c, step, card) < w[low + c] {
-            return false;
-        }
-    }
-    true
-}
+ghost use Rattle.grouping.specs.Joining.{Tables, joinsAt, admits};
 
 // Whether the join at the sets of i alone and of j alone exists.
-pub fn pair_joins(w: &[u8], ks: [u8; 8], i: usize, j: usize, low: usize, high: usize) -> bool
+pub fn pair_joins(w: &[u8], ks: [u8; PLACES], i: usize, j: usize, low: usize, high: usize) -> bool
     requires { ⌜ (i < 8) × (j < 8) × Tables (now w) ks low high ⌝ }
     ensures { λ r. ⌜ r ≡ joinsAt ks (now (w .entry)) low high (singleton i) (singleton j) ⌝ }
 {
@@ -46,8 +18,8 @@ pub fn pair_joins(w: &[u8], ks: [u8; 8], i: usize, j: usize, low: usize, high: u
     let step_j = places::step(ks, j);
     let card_j = ks[j] as usize;
     for c in 0..n {
-        let first = least_at(w, high, c, step_j, card_j);
-        let second = least_at(w, high, c, step_i, card_i);
+        let first = extremes::least_at(w, high, c, step_j, card_j);
+        let second = extremes::least_at(w, high, c, step_i, card_i);
         if extremes::extreme(true, first, second) < w[low + c] {
             return false;
         }
@@ -57,7 +29,7 @@ pub fn pair_joins(w: &[u8], ks: [u8; 8], i: usize, j: usize, low: usize, high: u
 
 // Whether condition i can be added to the set whose table is at `grow`, beside the table at `keep`
 // of the other set.
-pub fn may_add(w: &[u8], ks: [u8; 8], i: usize, low: usize, keep: usize, grow: usize) -> bool
+pub fn may_add(w: &[u8], ks: [u8; PLACES], i: usize, low: usize, keep: usize, grow: usize) -> bool
     requires { ⌜ (i < 8) × Tables (now w) ks low keep × Tables (now w) ks low grow ⌝ }
     ensures { λ r. ⌜ r ≡ admits ks i (part (now (w .entry)) low (cells ks)) (part (now (w .entry)) keep (cells ks)) (part (now (w .entry)) grow (cells ks)) ⌝ }
 {
@@ -65,7 +37,7 @@ pub fn may_add(w: &[u8], ks: [u8; 8], i: usize, low: usize, keep: usize, grow: u
     let step = places::step(ks, i);
     let card = ks[i] as usize;
     for c in 0..n {
-        let least = least_at(w, grow, c, step, card);
+        let least = extremes::least_at(w, grow, c, step, card);
         if extremes::extreme(true, w[keep + c], least) < w[low + c] {
             return false;
         }

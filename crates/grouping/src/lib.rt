@@ -4,6 +4,7 @@ pub mod growing;
 pub mod joins;
 pub mod search;
 
+use rules::PLACES;
 ghost use mathlib.Core.Path.{_≡_};
 ghost use Rattle.rules.specs.Stage.{difference, keepsMax};
 ghost use Rattle.grouping.specs.Growing.{Space, Grouped};
@@ -28,7 +29,7 @@ pub enum Found {
 
 // The grouping under the limits at low and at high, and, where sets are found, the least upper
 // grades over t at a and over s at b.
-pub fn group(w: &mut [u8], ks: [u8; 8], low: usize, high: usize, a: usize, b: usize) -> Found
+pub fn group(w: &mut [u8], ks: [u8; PLACES], low: usize, high: usize, a: usize, b: usize) -> Found
     requires { ⌜ Space (now w) ks low a b × Space (now w) ks high a b ⌝ }
     ensures { λ r. ⌜ Grouped (now (w .entry)) ks low high a b r (now (w .exit)) ⌝ }
 {

@@ -1,6 +1,7 @@
 // The search for two conditions that join.
 use crate::Pair;
 use crate::joins;
+use rules::PLACES;
 ghost use Prim.Native.Nat.{_<_};
 ghost use mathlib.Core.Path.{_≡_};
 ghost use mathlib.Core.Bool.{_&&_};
@@ -9,7 +10,7 @@ ghost use Rattle.grouping.specs.Joining.{Tables, joinsAt};
 ghost use Rattle.grouping.specs.Searching.{FirstPair};
 
 // Whether the places have conditions i and j, and the two join.
-fn admits_pair(w: &[u8], ks: [u8; 8], i: usize, j: usize, low: usize, high: usize) -> bool
+fn admits_pair(w: &[u8], ks: [u8; PLACES], i: usize, j: usize, low: usize, high: usize) -> bool
     requires { ⌜ (i < 8) × (j < 8) × Tables (now w) ks low high ⌝ }
     ensures { λ r. ⌜ r ≡ present ks i && (present ks j && joinsAt ks (now (w .entry)) low high (singleton i) (singleton j)) ⌝ }
 {
@@ -23,12 +24,12 @@ fn admits_pair(w: &[u8], ks: [u8; 8], i: usize, j: usize, low: usize, high: usiz
 }
 
 // The first pair i < j that joins, i rising, then j.
-pub fn first_pair(w: &[u8], ks: [u8; 8], low: usize, high: usize) -> Pair
+pub fn first_pair(w: &[u8], ks: [u8; PLACES], low: usize, high: usize) -> Pair
     requires { ⌜ Tables (now w) ks low high ⌝ }
     ensures { λ r. ⌜ FirstPair (now (w .entry)) ks low high r ⌝ }
 {
     let mut found = Pair::Nothing;
-    'search: for i in 0..8 {
+    'search: for i in 0..PLACES {
         for j in i + 1..8 {
             if admits_pair(w, ks, i, j, low, high) {
                 found = Pair::Found(i, j);

@@ -1,11 +1,6 @@
--- Laws of the joins on parts of a work buffer.
-pub mod HoldLaws
-pub mod TurnLaws
-pub mod StepLaws
-pub mod BlindLaws
+-- Laws of the join calls and of the functions that they are made of.
 pub mod SetsLaws
-pub mod JudgeLaws
 pub mod RowLaws
-pub mod PromiseLaws
 pub mod OpenLaws
 pub mod CallLaws
+pub mod PromiseLaws

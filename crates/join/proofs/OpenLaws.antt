@@ -1,163 +1,131 @@
--- A call's rows, test by test, and the work buffer once they let it pass.
-use Prim.Native.Nat.{ℕ, _-_, _*_, _≤_, _<_}
-use mathlib.Core.Path.{_≡_, refl, sym, _∙_, ap, subst}
-use mathlib.Core.Bool.{Bool, true, false, _&&_}
-use mathlib.Core.List.{List}
-use native.Mathlib.Nat.{le-trans, zero-add}
+-- A join opened in a work buffer, its second block, and limits that leave the buffer.
+use Prim.Native.Nat.{ℕ, _*_, _≤_, _<_}
+use mathlib.Core.Path.{_≡_, refl, sym, _∙_, ap}
+use mathlib.Core.Bool.{Bool, true, false}
+use mathlib.Core.List.{List, _++_}
+use native.Mathlib.Nat.{le-trans, le-refl, zero-add}
 use native.Mathlib.Omega.{arith}
-use borrow.Author.Tests.{lt-leb, le-leb}
-use lib.Dec.{leb, ltb}
-use lib.ListN.{length}
+use lib.ListN.{length, drop}
 use Rattle.rules.specs.declared.Gate.{Gate}
-use Rattle.rules.specs.declared.Refusal.{Refusal}
-use Rattle.rules.specs.declared.Refusal.the-variants.{ShapeRange, GradeLimits, Sets, NoJoin, ShortBuffer}
-use Rattle.rules.specs.Bytes.{at, all}
-use Rattle.rules.specs.Cell.{Positive, cells}
-use Rattle.rules.specs.Verdict.{accepted, refused, unless, roomy}
+use Rattle.rules.specs.Bytes.{at}
+use Rattle.rules.specs.Cell.{cells}
 use Rattle.rules.specs.Limits.{Limits, limitsOf}
-use Rattle.rules.specs.Join.{exchangeFor, setsSound, joinExists, joinRows}
+use Rattle.rules.specs.Join.{exchangeFor, joinExists, firstLimits, blockSound}
 use Rattle.rules.specs.Demands.{Table}
-use Rattle.laws.proofs.GateLaws.{Good, exchangeFor-good}
+use Rattle.laws.proofs.GateLaws.{Good, exchangeFor-good, first-good}
 use Rattle.laws.proofs.JoinLaws.{uA-under, uB-under}
-use Rattle.shape.specs.declared.Shape.{Shape}
-use Rattle.shape.specs.Shapes.{cardsOf, placesOf, isSound}
+use Rattle.laws.proofs.TestLaws.{passes}
 use Rattle.tables.specs.Part.{part, Laid}
 use Rattle.tables.proofs.PartLaws.{part-at}
-use Rattle.join.specs.declared.JoinAnswer.the-variants as answers
-use Rattle.join.specs.Parts.{Below, Holds, Placed, Exchanging, Exchanged, Work, Begun, Opened, Uppers, Existing}
-use Rattle.join.specs.Calls.{joinAnswer, Ready, Rows}
-use Rattle.join.proofs.HoldLaws.{holds-at, laid-within, stays-below}
-use Rattle.join.proofs.StepLaws.{before, grades-both}
-use Rattle.join.proofs.RowLaws.{passes, refused-limits, rows-by}
-use Rattle.join.proofs.PromiseLaws.{table}
+use Rattle.join_tables.specs.Parts.{Below, Holds, Placed, Exchanging, Exchanged, Work, Begun, Uppers, Existing, First, Second, Judged}
+use Rattle.join_tables.proofs.HoldLaws.{holds-at, holds-part, laid-within, stays-below, stays-behind}
+use Rattle.join_tables.proofs.StepLaws.{before, grades-both}
+use Rattle.join_tables.proofs.BlindLaws.{block-inside}
+use Rattle.join.specs.Steps.{Opening, Joining, Opens, Given, Completes, Delivered}
 
 -- a table from another buffer
-pub loaded : {w : List ℕ} {a n : ℕ} {x w′ : List ℕ} → Laid w a (part x 0 n) n w′ → Holds w′ a x n
+loaded : {w : List ℕ} {a n : ℕ} {x w′ : List ℕ} → Laid w a (part x 0 n) n w′ → Holds w′ a x n
 loaded {n = n} {x = x} l = record { here = λ c lt. l .here c lt ∙ part-at x 0 n c lt ∙ ap (at x) (zero-add c) }
 
-pub holds-below : {w : List ℕ} {a : ℕ} {t : List ℕ} {n m : ℕ} → Holds w a t n → ((c : ℕ) → c < n → at t c ≤ m - 1) → Below w a n m
-holds-below h f = record { grade = λ c lt. rw (h .here c lt) (f c lt) }
+-- a table under the upper limits of some that are grades
+grades : {ks : List ℕ} {m n a : ℕ} {y : Limits} {w u : List ℕ} → n ≡ cells ks → Good ks m y → Holds w a u n → ((c : ℕ) → c < cells ks → at u c ≤ at (y .upper) c) → Below w a n m
+grades {ks} e good h f = record { grade = λ c lt. let i : c < cells ks = omega arith in rw (h .here c lt) (le-trans (f c i) (good .top c i)) }
 
--- the grades of a join that is open
-module _ (gate : Gate) (ks : List ℕ) (m s t : ℕ) (l : Limits) (n : ℕ) (e : n ≡ cells ks) (good : Good ks m l) where
-  x-good : Good ks m (exchangeFor gate ks m l)
-  x-good = exchangeFor-good ks m gate l good
-
-  pub low-grades : {w : List ℕ} → Begun gate ks m s t l n w → Below w (2 * n) n m
-  low-grades b = holds-below (b .lows) (λ c lt. le-trans (x-good .room c (omega arith)) (x-good .top c (omega arith)))
-
-  pub first-grades : {w : List ℕ} → Opened gate ks m s t l n w → Below w (4 * n) n m
-  first-grades o = holds-below (o .firsts) (λ c lt. le-trans (uA-under ks s t (exchangeFor gate ks m l .lower) (exchangeFor gate ks m l .upper) c (omega arith)) (x-good .top c (omega arith)))
-
-  pub second-grades : {w : List ℕ} → Begun gate ks m s t l n w → Below w (5 * n) n m
-  second-grades b = holds-below (b .seconds) (λ c lt. le-trans (uB-under ks s t (exchangeFor gate ks m l .lower) (exchangeFor gate ks m l .upper) c (omega arith)) (x-good .top c (omega arith)))
-
-pub table-good : {ks : List ℕ} {m : ℕ} {l : Limits} → Table ks m l → Good ks m l
+table-good : {ks : List ℕ} {m : ℕ} {l : Limits} → Table ks m l → Good ks m l
 table-good w = record { room = w .ordered; top = w .top }
 
--- a work buffer for a shape's tables
-module _ {ks k : List ℕ} {m n : ℕ} (places : ks ≡ k) (count : n ≡ cells ks) {l : Limits} (w : Table k m l) where
-  pub few : n ≤ 1024
-  few = let i = w .few-cells in let e = ap cells places in omega arith
-
-  pub work-for : {v : List ℕ} → 8192 ≤ length v → Work v ks n
-  work-for r = let i = few in record { shaped = record { some = subst Positive (sym places) (w .positive); few = omega arith }; count = count; room = omega arith }
-
-module _ {shape : Shape} {ks lower upper w : List ℕ} {n shortest : ℕ} (p : Ready shape ks n lower upper shortest w) (gate : Gate) (s t : ℕ) where
+-- limits loaded to parts 0 and 1
+module _ {ks lower upper w : List ℕ} {m n : ℕ} (p : Opening ks m n lower upper w) {v₁ v₂ : List ℕ} (low : Laid w 0 (part lower 0 n) n v₁) (high : Laid v₁ n (part upper 0 n) n v₂) where
   abbrev lent : Limits
   lent = limitsOf lower upper
 
-  abbrev limits-test : ℕ → Bool
-  limits-test c = leb (at lower c) (at upper c) && ltb (at upper c) (shape .m)
+  placed : Placed v₂ 0 lent n
+  placed = record { lows = stays-below (laid-within high) (omega arith) (loaded low); highs = holds-at (omega arith) (loaded high) }
 
-  size : n ≡ cells (placesOf shape)
-  size = p .count ∙ ap cells (p .places)
+  pub exchange-ready : Exchanging v₂ m 0 (2 * n) n
+  exchange-ready =
+      let x = p .table in
+      let r = p .room in
+      let i = low .len in
+      let j = high .len in
+      record {
+        some = omega (arith, x .grades);
+        parts = before 0 (2 * n) (2 * n) (2 * n) (omega arith) (omega arith);
+        grades = grades-both 0 n n (omega arith) (grades (p .count) (table-good x) (placed .lows) (x .ordered)) (grades (p .count) (table-good x) (loaded high) (λ c i. le-refl _));
+      }
 
-  rows-of : (lengths : List ℕ) (a b c d e : Bool) → roomy n lengths ≡ leb n shortest → isSound shape ≡ a → leb n shortest ≡ b → all n limits-test ≡ c → setsSound ks s t ≡ d
-      → joinExists gate (placesOf shape) (shape .m) s t lent ≡ e
-      → joinRows (shape .n) (cardsOf shape) (shape .m) lengths lent gate s t (accepted lent)
-      ≡ unless a ShapeRange (unless b ShortBuffer (unless c GradeLimits (unless d Sets (unless e NoJoin (accepted lent)))))
-  rows-of lengths a b c d e room ea eb ec ed ee =
-      rows-by (shape .n) (cardsOf shape) (shape .m) lengths lent gate s t (accepted lent) a b c d e ea (ap (λ (i : ℕ). roomy i lengths) (sym size) ∙ room ∙ eb)
-      (ap (λ (i : ℕ). all i limits-test) (sym size) ∙ ec) (ap (λ (k : List ℕ). setsSound k s t) (sym (p .places)) ∙ ed) ee
+  -- exchanged to parts 2 and 3, uA and uB in parts 4 and 5
+  pub opens : {gate : Gate} {s t : ℕ} {v₃ w′ : List ℕ} {r : Bool} → Exchanged gate v₂ m 0 (2 * n) n v₃ → Uppers ks s t n v₃ w′ → Existing n w′ r → Opens gate ks m s t lent n w r w′
+  opens {gate} {s} {t} x u e =
+      let o = u .opened gate m lent (x .limits ks lent (p .count) placed) in
+      let len = u .kept .len ∙ x .kept .len ∙ high .len ∙ low .len in
+      let r = p .room in
+      record { answer = e .answer gate ks m s t lent (p .count) o; joining = record { table = p .table; count = p .count; room = omega arith; opened = o }; len = len }
 
-  stop : {q : Refusal} {w′ : List ℕ}
-      → ((lengths : List ℕ) → roomy n lengths ≡ leb n shortest → joinRows (shape .n) (cardsOf shape) (shape .m) lengths lent gate s t (accepted lent) ≡ refused q)
-      → length w′ ≡ length w → Rows shape lower upper gate s t shortest n w (answers.Refused q) w′
-  stop f e = record { answer = λ lengths room. ap joinAnswer (sym (f lengths room)); opened = λ h. refused-limits h; len = e }
+pub given : {gate : Gate} {ks : List ℕ} {m s t : ℕ} {l : Limits} {n : ℕ} {w w′ g : List ℕ} {r : Bool} → Opens gate ks m s t l n w r w′ → r ≡ true → n ≤ length g → Given gate ks m s t n g w′
+given {l = l} o e h = record { l = l; joining = o .joining; exists = sym (o .answer) ∙ e; block = h }
 
-  pub shape-stop : isSound shape ≡ false → Rows shape lower upper gate s t shortest n w (answers.Refused ShapeRange) w
-  shape-stop a = stop (λ lengths room. rows-of lengths false _ _ _ _ room a refl refl refl refl) refl
+-- a join that is open, in its buffer and in those that follow
+module _ {gate : Gate} {ks : List ℕ} {m s t : ℕ} {l : Limits} {n : ℕ} {w : List ℕ} (j : Joining gate ks m s t l n w) where
+  abbrev x : Limits
+  x = exchangeFor gate ks m l
 
-  module _ (a : isSound shape ≡ true) where
-    pub short-stop : shortest < n → Rows shape lower upper gate s t shortest n w (answers.Refused ShortBuffer) w
-    short-stop b = stop (λ lengths room. rows-of lengths true false _ _ _ room a (lt-leb n shortest b) refl refl refl) refl
+  x-good : Good ks m x
+  x-good = exchangeFor-good ks m gate l (table-good (j .table))
 
-    module _ (b : n ≤ shortest) where
-      pub limits-stop : all n limits-test ≡ false → Rows shape lower upper gate s t shortest n w (answers.Refused GradeLimits) w
-      limits-stop c = stop (λ lengths room. rows-of lengths true true false _ _ room a (le-leb n shortest b) c refl refl) refl
+  work : {v : List ℕ} → length v ≡ length w → Work v ks n
+  work e = let r = j .room in record { shaped = record { some = j .table .positive; few = j .table .few-cells }; count = j .count; room = omega arith }
 
-      module _ (c : all n limits-test ≡ true) where
-        pub sets-stop : setsSound ks s t ≡ false → Rows shape lower upper gate s t shortest n w (answers.Refused Sets) w
-        sets-stop d = stop (λ lengths room. rows-of lengths true true true false _ room a (le-leb n shortest b) c d refl) refl
+  some : 1 ≤ m
+  some = omega (arith, j .table .grades)
 
-        pub lent-table : Table (placesOf shape) (shape .m) lent
-        lent-table = table shape lower upper gate s t (passes a) (passes (ap (λ (i : ℕ). all i limits-test) (sym size) ∙ c))
+  lows : {v : List ℕ} → Begun gate ks m s t l n v → Below v (2 * n) n m
+  lows b = grades (j .count) x-good (b .lows) (x-good .room)
 
-        pub small : n ≤ 1024
-        small = few (p .places) (p .count) lent-table
+  seconds : {v : List ℕ} → Begun gate ks m s t l n v → Below v (5 * n) n m
+  seconds b = grades (j .count) x-good (b .seconds) (uB-under ks s t (x .lower) (x .upper))
 
-        module _ {v₁ v₂ : List ℕ} (low : Laid w 0 (part lower 0 n) n v₁) (high : Laid v₁ n (part upper 0 n) n v₂) where
-          placed : Placed v₂ 0 lent n
-          placed = record { lows = stays-below (laid-within high) (omega arith) (loaded low); highs = holds-at (omega arith) (loaded high) }
+  pub first-ready : Work w ks n × (1 ≤ m) × Below w (2 * n) n m × Below w (4 * n) n m
+  first-ready = (work refl, some, lows (j .opened .begun), grades (j .count) x-good (j .opened .firsts) (uA-under ks s t (x .lower) (x .upper)))
 
-          pub exchange-ready : Exchanging v₂ (shape .m) 0 (2 * n) n
-          exchange-ready =
-              let x = lent-table in
-              let g = x .grades in
-              let r = p .room in
-              let i = low .len in
-              let j = high .len in
-              let k = size in
-              let f = small in
-              record {
-                some = omega arith;
-                parts = before 0 (2 * n) (2 * n) (2 * n) (omega arith) (omega arith);
-                grades =
-                    grades-both 0 n n (omega arith) (holds-below (placed .lows) (λ c lt. le-trans (x .ordered c (omega arith)) (x .top c (omega arith))))
-                    (holds-below (loaded high) (λ c lt. x .top c (omega arith)));
-              }
+-- the first block's limits are made, a block g is loaded to part 1 and judged
+module _ {gate : Gate} {ks : List ℕ} {m t n : ℕ} {w w₁ w₂ w₃ : List ℕ} {q : Bool} (first : First gate ks m t n w w₁) (g : List ℕ) (load : Laid w₁ n (part g 0 n) n w₂)
+    (judged : Judged ks t n w₂ q w₃) where
+  len : length w₃ ≡ length w
+  len = judged .kept .len ∙ load .len ∙ first .kept .len
 
-          module _ {v₃ : List ℕ} (exchanged : Exchanged gate v₂ (shape .m) 0 (2 * n) n v₃) where
-            pub uppers-ready : Work v₃ ks n
-            uppers-ready =
-                let r = p .room in
-                let i = low .len in
-                let j = high .len in
-                let k = exchanged .kept .len in
-                work-for (p .places) (p .count) lent-table (omega arith)
+  block : Holds w₃ n g n
+  block = stays-below (judged .kept) (omega arith) (loaded load)
 
-            module _ (d : setsSound ks s t ≡ true) {w′ : List ℕ} (both : Uppers ks s t n v₃ w′) where
-              same-len : length w′ ≡ length w
-              same-len = both .kept .len ∙ exchanged .kept .len ∙ high .len ∙ low .len
+  module _ {s : ℕ} {l : Limits} (j : Joining gate ks m s t l n w) where
+    row-nine : q ≡ blockSound ks t (firstLimits gate ks m s t l) g
+    row-nine =
+        let p = first .limits s l (j .opened) in
+        let k = laid-within load in
+        judged .answer (firstLimits gate ks m s t l) g (record { lows = stays-behind k (omega arith) (p .lows); highs = stays-behind k (omega arith) (p .highs) }) (loaded load)
 
-              pub exists-ready : 8 * n ≤ length w′
-              exists-ready = let f = small in let r = p .room in let e = same-len in omega arith
+    begun : Begun gate ks m s t l n w₃
+    begun =
+        let b = first .begun s l (j .opened .begun) in
+        let k = laid-within load in
+        record { lows = stays-below (judged .kept) (omega arith) (stays-behind k (omega arith) (b .lows)); seconds = stays-behind (judged .kept) (omega arith) (stays-behind k (omega arith) (b .seconds)) }
 
-              joined : Opened gate (placesOf shape) (shape .m) s t lent n w′
-              joined = subst (λ (k : List ℕ). Uppers k s t n v₃ w′) (p .places) both .opened gate (shape .m) lent (exchanged .limits (placesOf shape) lent size placed)
+    pub second-ready : joinExists gate ks m s t l ≡ true → q ≡ true → Work w₃ ks n × (1 ≤ m) × Below w₃ n n m × Below w₃ (2 * n) n m × Below w₃ (5 * n) n m
+    second-ready e sound =
+        let good = first-good ks m s t gate l (table-good (j .table)) (passes e) in
+        let inside = block-inside ks t (firstLimits gate ks m s t l) g (passes (sym row-nine ∙ sound)) in
+        (work j len, some j, grades (j .count) good block (λ c i. inside c i .1), lows j begun, seconds j begun)
 
-              module _ {r : Bool} (x : Existing n w′ r) where
-                found : {e : Bool} → r ≡ e → joinExists gate (placesOf shape) (shape .m) s t lent ≡ e
-                found e = sym (x .answer gate (placesOf shape) (shape .m) s t lent size joined) ∙ e
+  pub incomplete : {s : ℕ} → q ≡ false → Completes gate ks m s t n g w false w₃
+  incomplete e = record { answer = λ l j. sym e ∙ row-nine j; limits = λ l j h. let z : _≡_ {A = ℕ} 0 1 = cc in absurd (omega arith); len = len }
 
-                pub join-stop : r ≡ false → Rows shape lower upper gate s t shortest n w (answers.Refused NoJoin) w′
-                join-stop e = stop (λ lengths room. rows-of lengths true true true true false room a (le-leb n shortest b) c d (found e)) same-len
+  pub complete : {s : ℕ} {w′ : List ℕ} → q ≡ true → Second gate ks m s n w₃ w′ → Completes gate ks m s t n g w true w′
+  complete e h = record { answer = λ l j. sym e ∙ row-nine j; limits = λ l j k. h .limits t l g (begun j) block; len = h .kept .len ∙ len }
 
-                pub rows-pass : r ≡ true → Rows shape lower upper gate s t shortest n w answers.Limits w′
-                rows-pass e =
-                    record {
-                      answer = λ lengths room. ap joinAnswer (sym (rows-of lengths true true true true true room a (le-leb n shortest b) c d (found e)));
-                      opened = λ h. joined;
-                      len = same-len;
-                    }
+-- limits from parts 6 and 7 to two buffers
+pub delivered : {n : ℕ} {w low high low′ high′ : List ℕ} → 8 * n ≤ length w → low′ ≡ part w (6 * n) n ++ drop n low → high′ ≡ part w (7 * n) n ++ drop n high → Delivered n w low high low′ high′
+delivered {n} {low = low} {high = high} room a b =
+    record {
+      lower = λ l p e. a ∙ ap (λ (z : List ℕ). z ++ drop n low) (holds-part (p .lows) (omega arith) e);
+      upper = λ l p e. b ∙ ap (λ (z : List ℕ). z ++ drop n high) (holds-part (holds-at {b = 7 * n} (omega arith) (p .highs)) (omega arith) e);
+    }

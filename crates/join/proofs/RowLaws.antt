@@ -1,31 +1,26 @@
 -- The rows of a join call: what stopped it, or what they let pass.
 use Prim.Native.Nat.{ℕ, min}
-use mathlib.Core.Path.{_≡_, refl, sym, _∙_, ap, subst}
+use mathlib.Core.Path.{_≡_, refl, sym, _∙_, ap}
 use mathlib.Core.Bool.{Bool, true, false, _&&_}
 use mathlib.Core.List.{List, [], _∷_}
 use mathlib.Core.Logic.{_↔_}
 use native.Mathlib.Omega.{arith}
-use lib.Dec.{T, leb, leb→le, le→leb}
+use lib.Dec.{leb, ltb, leb→le, le→leb}
 use Rattle.rules.specs.declared.Gate.{Gate}
 use Rattle.rules.specs.declared.Refusal.{Refusal}
 use Rattle.rules.specs.declared.Refusal.the-variants.{ShapeRange, GradeLimits, Sets, NoJoin, ShortBuffer}
+use Rattle.rules.specs.Bytes.{at, all}
 use Rattle.rules.specs.Cell.{cells}
-use Rattle.rules.specs.Shape.{places, shapeSound}
 use Rattle.rules.specs.Verdict.{Verdict, accepted, refused, unless, roomy}
-use Rattle.rules.specs.Limits.{Limits, limitsSound}
+use Rattle.rules.specs.Limits.{Limits, limitsOf, limitsSound}
 use Rattle.rules.specs.Join.{setsSound, joinExists, joinRows}
-use Rattle.laws.proofs.TestLaws.{and-l, and-r, and-i}
+use Rattle.laws.proofs.TestLaws.{and-l, and-r, and-i, same-test, passes, passed}
+use Rattle.shape.specs.declared.Shape.{Shape}
+use Rattle.shape.specs.Shapes.{cardsOf, placesOf, isSound}
 use Rattle.join.specs.declared.JoinAnswer.{JoinAnswer}
 use Rattle.join.specs.declared.JoinAnswer.the-variants as answers
-use Rattle.join.specs.Calls.{joinAnswer}
-use Rattle.join.proofs.BlindLaws.{same-test}
-
-pub passes : {b : Bool} → b ≡ true → T b
-passes e = subst T (sym e) tt
-
-pub is-true : (b : Bool) → T b → b ≡ true
-is-true true h = refl
-is-true false h = absurd h
+use Rattle.join.specs.Calls.{joinAnswer, Offered}
+use Rattle.join.specs.Steps.{Ready, Judgement}
 
 -- two answers
 pub limits-refused : {A : Type 0} {q : Refusal} → answers.Limits ≡ answers.Refused q → A
@@ -39,7 +34,7 @@ abbrev pub shortestOf : ℕ → List ℕ → ℕ
 shortestOf b [] = b
 shortestOf b (c ∷ cs) = min b (shortestOf c cs)
 
-pub roomy-shortest : (n b : ℕ) (bs : List ℕ) → roomy n (b ∷ bs) ≡ leb n (shortestOf b bs)
+roomy-shortest : (n b : ℕ) (bs : List ℕ) → roomy n (b ∷ bs) ≡ leb n (shortestOf b bs)
 roomy-shortest n b [] = same-test _ _ (λ h. and-l (leb n b) true h) (λ h. and-i (leb n b) true h tt)
 roomy-shortest n b (c ∷ cs) =
     ap (λ (q : Bool). leb n b && q) (roomy-shortest n c cs)
@@ -48,7 +43,7 @@ roomy-shortest n b (c ∷ cs) =
     (λ h. let p = leb→le n _ h in and-i (leb n b) (leb n (shortestOf c cs)) (le→leb n b (omega arith)) (le→leb n (shortestOf c cs) (omega arith)))
 
 -- one row
-pub row-passed : (b : Bool) (q : Refusal) (v : Verdict Limits) → joinAnswer (unless b q v) ≡ answers.Limits → (b ≡ true) × (joinAnswer v ≡ answers.Limits)
+row-passed : (b : Bool) (q : Refusal) (v : Verdict Limits) → joinAnswer (unless b q v) ≡ answers.Limits → (b ≡ true) × (joinAnswer v ≡ answers.Limits)
 row-passed true q v h = (refl, h)
 row-passed false q v h = refused-limits h
 
@@ -60,49 +55,51 @@ row-refuses : (b : Bool) (q : Refusal) (v : Verdict Limits) → (joinAnswer v �
 row-refuses true q v f h = absurd (f h)
 row-refuses false q v f h = refl
 
--- five rows
-module _ (n : ℕ) (cards : List ℕ) (m : ℕ) (lengths : List ℕ) (l : Limits) (op : Gate) (s t : ℕ) where
-  pub rows-by : (next : Verdict Limits) (a b c d e : Bool) → shapeSound n cards m ≡ a → roomy (cells (places cards)) lengths ≡ b → limitsSound (places cards) m l ≡ c
-      → setsSound (places cards) s t ≡ d → joinExists op (places cards) m s t l ≡ e
-      → joinRows n cards m lengths l op s t next ≡ unless a ShapeRange (unless b ShortBuffer (unless c GradeLimits (unless d Sets (unless e NoJoin next))))
-  rows-by next a b c d e p q r u v = cc
+-- rows 4, 10, 5 and 7, by their tests
+abbrev four : Bool → Bool → Bool → Bool → Verdict Limits → Verdict Limits
+four a b c d v = unless a ShapeRange (unless b ShortBuffer (unless c GradeLimits (unless d Sets v)))
 
-  pub record Passed : Type 0 where
-    pub sound : shapeSound n cards m ≡ true
-    pub room : roomy (cells (places cards)) lengths ≡ true
-    pub limits : limitsSound (places cards) m l ≡ true
-    pub sets : setsSound (places cards) s t ≡ true
-    pub exists : joinExists op (places cards) m s t l ≡ true
+module _ {shape : Shape} {ks : List ℕ} {n : ℕ} {lower upper : List ℕ} {shortest s t : ℕ} (p : Ready shape ks n lower upper shortest) where
+  -- each test as a function answers it, and its value
+  pub judgement : (a b c d : Bool) {x y z : Bool} → x ≡ isSound shape → x ≡ a → leb n shortest ≡ b → y ≡ all n (λ i. leb (at lower i) (at upper i) && ltb (at upper i) (shape .m)) → y ≡ c
+      → z ≡ setsSound ks s t → z ≡ d → Judgement shape (limitsOf lower upper) s t shortest (joinAnswer (four a b c d (accepted (limitsOf lower upper))))
+  judgement a b c d xa ea eb yc ec zd ed = let k = p .places in let e = p .count in record { answer = cc }
 
-  pub passed : (next : Verdict Limits) → joinAnswer (joinRows n cards m lengths l op s t next) ≡ answers.Limits → Passed
-  passed next h =
-      let a = row-passed (shapeSound n cards m) ShapeRange _ h in
-      let b = row-passed (roomy (cells (places cards)) lengths) ShortBuffer _ (a .1) in
-      let c = row-passed (limitsSound (places cards) m l) GradeLimits _ (b .1) in
-      let d = row-passed (setsSound (places cards) s t) Sets _ (c .1) in
-      let e = row-passed (joinExists op (places cards) m s t l) NoJoin next (d .1) in
-      record { sound = a .0; room = b .0; limits = c .0; sets = d .0; exists = e .0 }
+-- a call that is judged, b and bs being the lengths of its buffers
+module _ {shape : Shape} {l : Limits} {s t shortest : ℕ} {r : JoinAnswer} (j : Judgement shape l s t shortest r) (b : ℕ) (bs : List ℕ) (short : shortest ≡ shortestOf b bs) where
+  answer : r ≡ joinAnswer (four (isSound shape) (roomy (cells (placesOf shape)) (b ∷ bs)) (limitsSound (placesOf shape) (shape .m) l) (setsSound (placesOf shape) s t) (accepted l))
+  answer = let k = roomy-shortest (cells (placesOf shape)) b bs in let i = j .answer in cc
 
-  pub rows-passed : Passed → (next : Verdict Limits) → joinRows n cards m lengths l op s t next ≡ next
-  rows-passed p next = rows-by next true true true true true (p .sound) (p .room) (p .limits) (p .sets) (p .exists)
+  -- a row stops it, whatever the rows below would say
+  pub stopped : {q : Refusal} → r ≡ answers.Refused q → (gate : Gate) (next : Verdict Limits) → joinRows (shape .n) (cardsOf shape) (shape .m) (b ∷ bs) l gate s t next ≡ refused q
+  stopped e gate next =
+      row-stopped (isSound shape) ShapeRange _ _
+      (row-stopped (roomy (cells (placesOf shape)) (b ∷ bs)) ShortBuffer _ _
+      (row-stopped (limitsSound (placesOf shape) (shape .m) l) GradeLimits _ _
+      (row-stopped (setsSound (placesOf shape) s t) Sets (accepted l) _ (λ h. limits-refused h))))
+      (sym answer ∙ e)
 
-  -- where a row stops it, what follows the rows doesn't matter
-  pub stopped : (next : Verdict Limits) {q : Refusal} → joinAnswer (joinRows n cards m lengths l op s t (accepted l)) ≡ answers.Refused q → joinRows n cards m lengths l op s t next ≡ refused q
-  stopped next =
-      row-stopped (shapeSound n cards m) ShapeRange _ _
-      (row-stopped (roomy (cells (places cards)) lengths) ShortBuffer _ _
-      (row-stopped (limitsSound (places cards) m l) GradeLimits _ _
-      (row-stopped (setsSound (places cards) s t) Sets _ _
-      (row-stopped (joinExists op (places cards) m s t l) NoJoin (accepted l) next (λ h. limits-refused h)))))
+  pub offered : r ≡ answers.Limits → Offered shape (b ∷ bs) l s t
+  offered h =
+      let a = row-passed (isSound shape) ShapeRange _ (sym answer ∙ h) in
+      let b = row-passed (roomy (cells (placesOf shape)) (b ∷ bs)) ShortBuffer _ (a .1) in
+      let c = row-passed (limitsSound (placesOf shape) (shape .m) l) GradeLimits _ (b .1) in
+      let d = row-passed (setsSound (placesOf shape) s t) Sets _ (c .1) in
+      record { sound = passes (a .0); room = passes (b .0); limits = passes (c .0); sets = passes (d .0) }
 
-  -- refusal 8, once the rows above let pass
-  pub eight : (next : Verdict Limits) {r : JoinAnswer} → r ≡ joinAnswer (joinRows n cards m lengths l op s t next) → (joinAnswer next ≡ answers.Refused NoJoin → ⊥)
-      → T (shapeSound n cards m) → T (roomy (cells (places cards)) lengths) → T (limitsSound (places cards) m l) → T (setsSound (places cards) s t)
-      → (r ≡ answers.Refused NoJoin) ↔ (joinExists op (places cards) m s t l ≡ false)
-  eight next {r} e f a b c d = (
-    (λ h. row-refuses (joinExists op (places cards) m s t l) NoJoin next f (sym (e ∙ ap joinAnswer rows) ∙ h)),
-    (λ h. e ∙ ap joinAnswer (rows ∙ ap (λ (x : Bool). unless x NoJoin next) h)),
+-- a call that they let pass: then row 8
+module _ {shape : Shape} {lengths : List ℕ} {l : Limits} {s t : ℕ} (o : Offered shape lengths l s t) (gate : Gate) (next : Verdict Limits) where
+  pub row-eight : {e : Bool} → joinExists gate (placesOf shape) (shape .m) s t l ≡ e → joinRows (shape .n) (cardsOf shape) (shape .m) lengths l gate s t next ≡ unless e NoJoin next
+  row-eight x =
+      let a = passed (isSound shape) (o .sound) in
+      let b = passed (roomy (cells (placesOf shape)) lengths) (o .room) in
+      let c = passed (limitsSound (placesOf shape) (shape .m) l) (o .limits) in
+      let d = passed (setsSound (placesOf shape) s t) (o .sets) in
+      cc
+
+  pub refused-eight : {r : JoinAnswer} → r ≡ joinAnswer (joinRows (shape .n) (cardsOf shape) (shape .m) lengths l gate s t next) → (joinAnswer next ≡ answers.Refused NoJoin → ⊥)
+      → (r ≡ answers.Refused NoJoin) ↔ (joinExists gate (placesOf shape) (shape .m) s t l ≡ false)
+  refused-eight e f = (
+    (λ h. row-refuses (joinExists gate (placesOf shape) (shape .m) s t l) NoJoin next f (sym (e ∙ ap joinAnswer (row-eight refl)) ∙ h)),
+    (λ h. e ∙ ap joinAnswer (row-eight h)),
   )
-    where
-      rows : joinRows n cards m lengths l op s t next ≡ unless (joinExists op (places cards) m s t l) NoJoin next
-      rows = rows-by next true true true true _ (is-true _ a) (is-true _ b) (is-true _ c) (is-true _ d) refl

@@ -1,28 +1,32 @@
 -- The promises of the two join calls.
-use Prim.Native.Nat.{ℕ, _≤_}
+use Prim.Native.Nat.{ℕ}
 use mathlib.Core.Path.{_≡_}
 use mathlib.Core.List.{List, [], _∷_, _++_}
 use mathlib.Core.Logic.{_↔_}
-use lib.Dec.{T, leb}
+use lib.Dec.{T}
 use lib.ListN.{length, drop}
 use Rattle.rules.specs.declared.Gate.{Gate}
 use Rattle.rules.specs.declared.Refusal.the-variants.{NoJoin}
 use Rattle.rules.specs.Bytes.{at}
 use Rattle.rules.specs.Cell.{Blind, cells}
-use Rattle.rules.specs.Verdict.{Verdict, accepted, refused, roomy}
+use Rattle.rules.specs.Verdict.{Verdict, accepted, refused, roomy, Answer, granted, denied, answerOf}
 use Rattle.rules.specs.Limits.{Limits, limitsOf, limitsSound}
-use Rattle.rules.specs.Join.{setsSound, joinRows, joinFirst, joinSecond}
+use Rattle.rules.specs.Join.{setsSound, joinFirst, joinSecond}
 use Rattle.rules.specs.Demands.{Grades, Inside, Pair}
 use Rattle.shape.specs.declared.Shape.{Shape}
 use Rattle.shape.specs.Shapes.{cardsOf, placesOf, isSound}
 use Rattle.join.specs.declared.JoinAnswer.{JoinAnswer}
 use Rattle.join.specs.declared.JoinAnswer.the-variants as answers
-use Rattle.join.specs.Parts.{Opened}
 
 -- the answer to a verdict
 abbrev pub joinAnswer : Verdict Limits → JoinAnswer
 joinAnswer (accepted l) = answers.Limits
 joinAnswer (refused q) = answers.Refused q
+
+-- what it says in 01's numbers; the limits themselves are in the output buffers
+abbrev pub joinMeans : JoinAnswer → Answer
+joinMeans answers.Limits = granted []
+joinMeans (answers.Refused q) = denied q
 
 -- the two output buffers after it: the limits of all n cells and what lay behind them, or all as it was
 abbrev pub lowerAfter : Verdict Limits → ℕ → List ℕ → List ℕ
@@ -40,14 +44,6 @@ pub record Offered (shape : Shape) (lengths : List ℕ) (l : Limits) (s t : ℕ)
   pub limits : T (limitsSound (placesOf shape) (shape .m) l)
   pub sets : T (setsSound (placesOf shape) s t)
 
--- what is read off a shape and some buffers before they are judged
-pub record Ready (shape : Shape) (ks : List ℕ) (n : ℕ) (lower upper : List ℕ) (shortest : ℕ) (w : List ℕ) : Type 0 where
-  pub places : ks ≡ placesOf shape
-  pub count : n ≡ cells ks
-  pub low : shortest ≤ length lower
-  pub high : shortest ≤ length upper
-  pub room : 8192 ≤ length w
-
 module _ (shape : Shape) (lower upper : List ℕ) (gate : Gate) (s t : ℕ) where
   -- the first call: its answer and every byte of its two output buffers, for every shape and all buffers
   module _ (toLower toUpper : List ℕ) where
@@ -59,6 +55,7 @@ module _ (shape : Shape) (lower upper : List ℕ) (gate : Gate) (s t : ℕ) wher
 
     pub record JoinFirst (r : JoinAnswer) (toLower′ toUpper′ : List ℕ) : Type 0 where
       pub answer : r ≡ joinAnswer firstVerdict
+      pub means : joinMeans r ≡ answerOf (λ l. []) firstVerdict
       pub lower-after : toLower′ ≡ lowerAfter firstVerdict (cells (placesOf shape)) toLower
       pub upper-after : toUpper′ ≡ upperAfter firstVerdict (cells (placesOf shape)) toUpper
       -- demand 2: refusal 8 exactly when there are no two functions
@@ -78,6 +75,7 @@ module _ (shape : Shape) (lower upper : List ℕ) (gate : Gate) (s t : ℕ) wher
 
     pub record JoinSecond (r : JoinAnswer) (toLower′ toUpper′ : List ℕ) : Type 0 where
       pub answer : r ≡ joinAnswer secondVerdict
+      pub means : joinMeans r ≡ answerOf (λ l. []) secondVerdict
       pub lower-after : toLower′ ≡ lowerAfter secondVerdict (cells (placesOf shape)) toLower
       pub upper-after : toUpper′ ≡ upperAfter secondVerdict (cells (placesOf shape)) toUpper
       pub no-join : Offered shape secondLengths (limitsOf lower upper) s t
@@ -85,10 +83,3 @@ module _ (shape : Shape) (lower upper : List ℕ) (gate : Gate) (s t : ℕ) wher
       -- the limits written hold exactly the functions that complete g
       pub exact : r ≡ answers.Limits → (h : ℕ → ℕ) → Grades (placesOf shape) (shape .m) h → Blind (placesOf shape) s h
           → Inside (placesOf shape) (limitsOf toLower′ toUpper′) h ↔ Pair gate (placesOf shape) (shape .m) s t (limitsOf lower upper) (at g) h
-
-  -- the rows of both, for whatever buffers the shortest of which has that length
-  pub record Rows (shortest n : ℕ) (w : List ℕ) (r : JoinAnswer) (w′ : List ℕ) : Type 0 where
-    pub answer : (lengths : List ℕ) → roomy n lengths ≡ leb n shortest
-        → r ≡ joinAnswer (joinRows (shape .n) (cardsOf shape) (shape .m) lengths (limitsOf lower upper) gate s t (accepted (limitsOf lower upper)))
-    pub opened : r ≡ answers.Limits → Opened gate (placesOf shape) (shape .m) s t (limitsOf lower upper) n w′
-    pub len : length w′ ≡ length w

@@ -1,3 +1,3 @@
 -- What the contracts of the joins cite.
-pub mod Parts
 pub mod Calls
+pub mod Steps

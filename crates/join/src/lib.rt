@@ -1,15 +1,18 @@
 // The two join calls: the limits of the first block, and those of the second once the first is given.
-ghost use Prim.Native.Nat.{min};
+ghost use Prim.Native.Nat.{_*_, _≤_, min};
 ghost use mathlib.Core.Path.{_≡_};
-ghost use Rattle.join.specs.Calls.{Ready, Rows, JoinFirst, JoinSecond};
+ghost use lib.ListN.{length};
+ghost use Rattle.rules.specs.Limits.{limitsOf};
+ghost use Rattle.join.specs.Calls.{JoinFirst, JoinSecond};
+ghost use Rattle.join.specs.Steps.{Ready, Judgement, Opening, Opens, Given, Completes, Delivered};
 use rules::Gate;
+use rules::PLACES;
 use rules::Refusal;
 use shape::Shape;
 use tables::fill;
 use tables::limits;
 
-pub mod parts;
-pub mod sets;
+mod sets;
 
 // Limits written to the two buffers lent for them, or why not.
 pub enum JoinAnswer {
@@ -23,22 +26,20 @@ fn shorter(a: usize, b: usize) -> usize
     if a < b { a } else { b }
 }
 
-// The rows that both calls have, with the length of the shortest lent buffer. Where they let the call
-// pass, the join is open in the work buffer.
-fn rows(
-    w: &mut [u8],
+// Rows 4, 10, 5 and 7, with the length of the shortest lent buffer. `Limits` says that they let the
+// call pass.
+fn judge(
     shape: Shape,
-    ks: [u8; 8],
+    ks: [u8; PLACES],
     n: usize,
     lower: &[u8],
     upper: &[u8],
     shortest: usize,
-    gate: Gate,
     s: u8,
     t: u8,
 ) -> JoinAnswer
-    requires { ⌜ Ready shape ks n (now lower) (now upper) shortest (now w) ⌝ }
-    ensures { λ r. ⌜ Rows shape (now (lower .entry)) (now (upper .entry)) gate s t shortest n (now (w .entry)) r (now (w .exit)) ⌝ }
+    requires { ⌜ Ready shape ks n (now lower) (now upper) shortest ⌝ }
+    ensures { λ r. ⌜ Judgement shape (limitsOf (now (lower .entry)) (now (upper .entry))) s t shortest r ⌝ }
 {
     if !shape.sound() {
         return JoinAnswer::Refused(Refusal::ShapeRange);
@@ -49,17 +50,65 @@ fn rows(
     if !limits::limits_sound(lower, upper, shape.m, n) {
         return JoinAnswer::Refused(Refusal::GradeLimits);
     }
-    if !sets::sets_sound(ks, s, t) {
-        return JoinAnswer::Refused(Refusal::Sets);
-    }
-    fill::load(w, lower, 0, n);
-    fill::load(w, upper, n, n);
-    parts::exchange(w, gate, shape.m, 0, 2 * n, n);
-    parts::uppers(w, ks, s, t, n);
-    if parts::exists(w, n) {
+    if sets::sets_sound(ks, s, t) {
         return JoinAnswer::Limits;
     }
-    JoinAnswer::Refused(Refusal::NoJoin)
+    JoinAnswer::Refused(Refusal::Sets)
+}
+
+// Opens the join under the lent limits in the work buffer. Row 8: whether it exists.
+fn open(
+    w: &mut [u8],
+    lower: &[u8],
+    upper: &[u8],
+    gate: Gate,
+    ks: [u8; PLACES],
+    m: u8,
+    s: u8,
+    t: u8,
+    n: usize,
+) -> bool
+    requires { ⌜ Opening ks m n (now lower) (now upper) (now w) ⌝ }
+    ensures { λ r. ⌜ Opens gate ks m s t (limitsOf (now (lower .entry)) (now (upper .entry))) n (now (w .entry)) r (now (w .exit)) ⌝ }
+{
+    fill::load(w, lower, 0, n);
+    fill::load(w, upper, n, n);
+    join_tables::exchange(w, gate, m, 0, 2 * n, n);
+    join_tables::uppers(w, ks, s, t, n);
+    join_tables::exists(w, n)
+}
+
+// Of an open join that exists, given a first block g: parts 6 and 7 become the second block's limits.
+// Row 9: whether g can be the first block.
+fn second_given(
+    w: &mut [u8],
+    gate: Gate,
+    ks: [u8; PLACES],
+    m: u8,
+    s: u8,
+    t: u8,
+    g: &[u8],
+    n: usize,
+) -> bool
+    requires { ⌜ Given gate ks m s t n (now g) (now w) ⌝ }
+    ensures { λ r. ⌜ Completes gate ks m s t n (now (g .entry)) (now (w .entry)) r (now (w .exit)) ⌝ }
+{
+    join_tables::first_limits(w, gate, ks, m, t, n);
+    fill::load(w, g, n, n);
+    if !join_tables::block_sound(w, ks, t, n) {
+        return false;
+    }
+    join_tables::second_limits(w, gate, ks, m, s, n);
+    true
+}
+
+// The limits in parts 6 and 7, to the two buffers lent for them.
+fn deliver(w: &[u8], n: usize, out_lower: &mut [u8], out_upper: &mut [u8])
+    requires { ⌜ (8 * n ≤ length (now w)) × (n ≤ length (now «out_lower»)) × (n ≤ length (now «out_upper»)) ⌝ }
+    ensures { λ _. ⌜ Delivered n (now (w .entry)) (now («out_lower» .entry)) (now («out_upper» .entry)) (now («out_lower» .exit)) (now («out_upper» .exit)) ⌝ }
+{
+    fill::unload(w, 6 * n, out_lower, n);
+    fill::unload(w, 7 * n, out_upper, n);
 }
 
 // The limits of a join's first block.
@@ -79,13 +128,15 @@ pub fn join_first(
     let n = places::cell_count(ks);
     let outs = shorter(out_lower.len(), out_upper.len());
     let shortest = shorter(lower.len(), shorter(upper.len(), outs));
-    let mut work = [0u8; 8192];
-    match rows(&mut work, shape, ks, n, lower, upper, shortest, gate, s, t) {
+    match judge(shape, ks, n, lower, upper, shortest, s, t) {
         JoinAnswer::Refused(refusal) => JoinAnswer::Refused(refusal),
         JoinAnswer::Limits => {
-            parts::first_limits(&mut work, gate, ks, shape.m, t, n);
-            fill::unload(&work, 6 * n, out_lower, n);
-            fill::unload(&work, 7 * n, out_upper, n);
+            let mut work = [0u8; 8192];
+            if !open(&mut work, lower, upper, gate, ks, shape.m, s, t, n) {
+                return JoinAnswer::Refused(Refusal::NoJoin);
+            }
+            join_tables::first_limits(&mut work, gate, ks, shape.m, t, n);
+            deliver(&work, n, out_lower, out_upper);
             JoinAnswer::Limits
         }
     }
@@ -109,18 +160,17 @@ pub fn join_second(
     let n = places::cell_count(ks);
     let outs = shorter(out_lower.len(), out_upper.len());
     let shortest = shorter(lower.len(), shorter(upper.len(), shorter(g.len(), outs)));
-    let mut work = [0u8; 8192];
-    match rows(&mut work, shape, ks, n, lower, upper, shortest, gate, s, t) {
+    match judge(shape, ks, n, lower, upper, shortest, s, t) {
         JoinAnswer::Refused(refusal) => JoinAnswer::Refused(refusal),
         JoinAnswer::Limits => {
-            parts::first_limits(&mut work, gate, ks, shape.m, t, n);
-            fill::load(&mut work, g, n, n);
-            if !parts::block_sound(&mut work, ks, t, n) {
+            let mut work = [0u8; 8192];
+            if !open(&mut work, lower, upper, gate, ks, shape.m, s, t, n) {
+                return JoinAnswer::Refused(Refusal::NoJoin);
+            }
+            if !second_given(&mut work, gate, ks, shape.m, s, t, g, n) {
                 return JoinAnswer::Refused(Refusal::FirstBlock);
             }
-            parts::second_limits(&mut work, gate, ks, shape.m, s, n);
-            fill::unload(&work, 6 * n, out_lower, n);
-            fill::unload(&work, 7 * n, out_upper, n);
+            deliver(&work, n, out_lower, out_upper);
             JoinAnswer::Limits
         }
     }

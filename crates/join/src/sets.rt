@@ -1,4 +1,5 @@
 // The sets that a join is asked for.
+use rules::PLACES;
 ghost use mathlib.Core.Path.{_≡_};
 ghost use mathlib.Core.Bool.{not, _&&_, _||_};
 ghost use lib.Dec.{ltb};
@@ -21,7 +22,7 @@ fn member_sound(card: u8, first: bool, second: bool) -> bool
 }
 
 // Whether s and t are not empty, have no condition in common, and name only conditions of ks.
-pub fn sets_sound(ks: [u8; 8], s: u8, t: u8) -> bool
+pub fn sets_sound(ks: [u8; PLACES], s: u8, t: u8) -> bool
     ensures { λ r. ⌜ r ≡ setsSound ks s t ⌝ }
 {
     if s == 0 {
@@ -30,7 +31,7 @@ pub fn sets_sound(ks: [u8; 8], s: u8, t: u8) -> bool
     if t == 0 {
         return false;
     }
-    for i in 0..8 {
+    for i in 0..PLACES {
         if !member_sound(ks[i], places::has_member(s, i), places::has_member(t, i)) {
             return false;
         }

@@ -14,8 +14,7 @@ use Rattle.rules.specs.Network.{networkSound, evaluate}
 use Rattle.rules.specs.NetworkCalls.{checkFrom, evaluateCall}
 use Rattle.shape.specs.declared.Shape.{Shape}
 use Rattle.shape.specs.Shapes.{cardsOf, placesOf, isSound}
-use Rattle.laws.proofs.TestLaws.{and-l, and-r}
-use Rattle.network.proofs.TestLaws.{passes}
+use Rattle.laws.proofs.TestLaws.{and-l, and-r, passes}
 use Rattle.network.specs.Checking.{checkRows}
 
 -- a row whose test is known, above rows that are
@@ -52,5 +51,5 @@ module _ (shape : Shape) (net : List ℕ) where
 -- two buffers with room
 pub roomy-means : (n a b : ℕ) → roomy n (a ∷ b ∷ []) ≡ true → (n ≤ a) × (n ≤ b)
 roomy-means n a b e =
-    let t : T (leb n a && (leb n b && true)) = passes (leb n a && (leb n b && true)) e in
+    let t : T (leb n a && (leb n b && true)) = passes e in
     (leb→le n a (and-l (leb n a) (leb n b && true) t), leb→le n b (and-l (leb n b) true (and-r (leb n a) (leb n b && true) t)))

@@ -1,5 +1,5 @@
 -- The search for the first cell outside its limits, and what it means that there is none.
-use Prim.Native.Nat.{ℕ, zero, suc, _+_, _-_, _≤_, _<_}
+use Prim.Native.Nat.{ℕ, zero, suc, _+_, _-_, _≤_, _<_, _/_}
 use mathlib.Core.Path.{_≡_, refl, sym, _∙_, ap, subst}
 use mathlib.Core.Bool.{Bool, true, false, cond, _&&_}
 use mathlib.Core.List.{List, [], _∷_}
@@ -11,25 +11,24 @@ use lib.ListN.{length}
 use Rattle.rules.specs.declared.Refusal.{Refusal}
 use Rattle.rules.specs.declared.Refusal.the-variants.{ShapeRange, GradeLimits, ShortBuffer, Network}
 use Rattle.rules.specs.Refusal.{refusalNumber}
-use Rattle.rules.specs.Bytes.{at}
+use Rattle.rules.specs.Bytes.{at, Past}
 use Rattle.rules.specs.Cell.{cells}
 use Rattle.rules.specs.Limits.{Limits, limitsOf, limitsSound}
-use Rattle.rules.specs.Verdict.{Verdict, accepted, refused, unless, roomy, verdictNumber}
+use Rattle.rules.specs.Verdict.{Verdict, accepted, unless, roomy, verdictNumber, answerOf}
 use Rattle.rules.specs.Network.{evaluate}
 use Rattle.rules.specs.NetworkCalls.{gradeWithin, CheckResult, within, outside, checkFrom}
 use Rattle.shape.specs.declared.Shape.{Shape}
 use Rattle.shape.specs.Shapes.{placesOf, isSound}
-use Rattle.laws.proofs.TestLaws.{and-l, and-r, and-i, by-order}
+use Rattle.laws.proofs.TestLaws.{and-l, and-r, and-i, by-order, passed}
+use Rattle.laws.proofs.VerdictLaws.{refused-accepted, accepted-same, row-passed, outside-within}
 use Rattle.network.specs.declared.CheckAnswer.{CheckAnswer}
 use Rattle.network.specs.declared.CheckAnswer.the-variants.{Within, Outside, Refused}
-use Rattle.network.specs.Grades.{Kept}
-use Rattle.network.specs.Checking.{checkVerdict, checkRows, EveryWithin, Checked}
-use Rattle.network.proofs.TestLaws.{passed}
+use Rattle.network.specs.Checking.{checkVerdict, checkRows, EveryWithin, Checked, checkMeans, resultValues}
 use Rattle.network.proofs.CallLaws.{networkTest, roomTest}
 
 cond-within : (b : Bool) (x : CheckResult) (c q : ℕ) → cond b x (outside c q) ≡ within → T b × (x ≡ within)
 cond-within true x c q e = (tt, e)
-cond-within false x c q e = let z : _≡_ {A = ℕ} 0 1 = cc in absurd (omega arith)
+cond-within false x c q e = outside-within e
 
 module _ (ks : List ℕ) (l : Limits) (net : List ℕ) where
   abbrev pub cellWithin : ℕ → Bool
@@ -65,28 +64,22 @@ module _ (ks : List ℕ) (l : Limits) (net : List ℕ) where
       ap (λ (b : Bool). cond b (checkFrom ks l net (suc c) n) (outside c (evaluate ks net c))) (passed (cellWithin c) (h c (le-refl c) (omega arith)))
       ∙ check-when n (suc c) (λ d a b. h d (omega arith) (omega arith))
 
--- a row that did not stop the call
-unless-accepted : {A : Type 0} (b : Bool) (q : Refusal) (v : Verdict A) (x : A) → unless b q v ≡ accepted x → v ≡ accepted x
-unless-accepted true q v x e = e
-unless-accepted false q v x e = let z : _≡_ {A = ℕ} 0 1 = cc in absurd (omega arith)
-
 unless-zero : {A : Type 0} (b : Bool) (q : Refusal) (v : Verdict A) → (refusalNumber q ≡ 0 → ⊥) → verdictNumber (unless b q v) ≡ 0 → unless b q v ≡ v
 unless-zero true q v n e = refl
 unless-zero false q v n e = absurd (n e)
 
-accepted-same : {A : Type 0} (x y : A) → accepted x ≡ accepted y → x ≡ y
-accepted-same x y e = cc
-
 answer-within : (answer : CheckAnswer) → checkVerdict answer ≡ accepted within → answer ≡ Within
 answer-within Within e = refl
-answer-within (Outside c q) e = let z : _≡_ {A = ℕ} 0 1 = cc in absurd (omega arith)
-answer-within (Refused r) e = let z : _≡_ {A = ℕ} 0 1 = cc in absurd (omega arith)
+answer-within (Outside c q) e = outside-within (accepted-same e)
+answer-within (Refused r) e = refused-accepted e
+
+check-means-by : (answer : CheckAnswer) → checkMeans answer ≡ answerOf resultValues (checkVerdict answer)
+check-means-by Within = refl
+check-means-by (Outside c q) = refl
+check-means-by (Refused r) = refl
 
 pub never-refused : {P : Type 0} (answer : CheckAnswer) (x : CheckResult) → checkVerdict answer ≡ accepted x → (r : Refusal) → answer ≡ Refused r → P
-never-refused answer x e r w =
-    let v : refused r ≡ accepted x = sym (ap checkVerdict w) ∙ e in
-    let z : _≡_ {A = ℕ} 0 1 = cc in
-    absurd (omega arith)
+never-refused answer x e r w = refused-accepted (sym (ap checkVerdict w) ∙ e)
 
 module _ (shape : Shape) (net lower upper work : List ℕ) where
   abbrev found : CheckResult
@@ -103,11 +96,10 @@ module _ (shape : Shape) (net lower upper work : List ℕ) where
   rows-found x e =
       let network-row : Verdict CheckResult = unless (networkTest shape net) Network (accepted found) in
       let limits-row : Verdict CheckResult = unless ordered GradeLimits network-row in
-      accepted-same found x
-      (unless-accepted (networkTest shape net) Network (accepted found) x
-      (unless-accepted ordered GradeLimits network-row x
-      (unless-accepted room ShortBuffer limits-row x
-      (unless-accepted (isSound shape) ShapeRange (unless room ShortBuffer limits-row) x e))))
+      let a = row-passed (isSound shape) ShapeRange (unless room ShortBuffer limits-row) e in
+      let b = row-passed room ShortBuffer limits-row (a .1) in
+      let d = row-passed ordered GradeLimits network-row (b .1) in
+      accepted-same (row-passed (networkTest shape net) Network (accepted found) (d .1) .1)
 
   rows-accept : verdictNumber (checkRows shape net lower upper work) ≡ 0 → checkRows shape net lower upper work ≡ accepted found
   unfolding room ordered
@@ -136,11 +128,12 @@ module _ (shape : Shape) (net lower upper work : List ℕ) where
       and-i (leb (at lower c) q) (leb q (at upper c)) (le→leb (at lower c) q (p .0)) (le→leb q (at upper c) (p .1)))
 
   -- the plain words follow from the answer
-  pub checked : (after : List ℕ) (answer : CheckAnswer) → ((r : Refusal) → answer ≡ Refused r → after ≡ work) → Kept net work after
+  pub checked : (after : List ℕ) (answer : CheckAnswer) → ((r : Refusal) → answer ≡ Refused r → after ≡ work) → Past (length net / 16) work after
       → checkVerdict answer ≡ checkRows shape net lower upper work → Checked shape net lower upper work after answer
   checked after answer keeps kept e =
       record {
         answers = e;
+        means = check-means-by answer ∙ ap (answerOf resultValues) e;
         refusal-keeps = keeps;
         kept = kept;
         within-means = λ w.

@@ -1,4 +1,3 @@
 -- What the contracts of `network` cite.
-pub mod Grades
 pub mod Evaluating
 pub mod Checking

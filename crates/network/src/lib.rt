@@ -6,11 +6,9 @@ ghost use lib.Dec.{leb};
 ghost use Rattle.rules.specs.Verdict.{roomy};
 ghost use Rattle.network.specs.Evaluating.{Evaluated};
 ghost use Rattle.network.specs.Checking.{Checked, Checkable, Searched};
+use rules::RECORD;
 use rules::Refusal;
 use shape::Shape;
-
-mod run;
-mod scan;
 
 pub enum Evaluation {
     Grade(u8),
@@ -31,16 +29,16 @@ pub fn evaluate(network: &[u8], shape: Shape, work: &mut [u8], cell: usize) -> E
     if !shape.sound() {
         return Evaluation::Refused(Refusal::ShapeRange);
     }
-    if work.len() < network.len() / scan::RECORD {
+    if work.len() < network.len() / RECORD {
         return Evaluation::Refused(Refusal::ShortBuffer);
     }
-    if !scan::scan(network, shape.places(), shape.m) {
+    if !network_scan::scan(network, shape.places(), shape.m) {
         return Evaluation::Refused(Refusal::Network);
     }
     if shape.cells() <= cell {
         return Evaluation::Refused(Refusal::CellNumber);
     }
-    Evaluation::Grade(run::grade_at(network, shape, cell, work))
+    Evaluation::Grade(network_run::grade_at(network, shape, cell, work))
 }
 
 // Whether the network's grade lies within the limits at every cell.
@@ -60,13 +58,13 @@ pub fn check(
     if !has_room(cells, lower.len(), upper.len()) {
         return CheckAnswer::Refused(Refusal::ShortBuffer);
     }
-    if work.len() < network.len() / scan::RECORD {
+    if work.len() < network.len() / RECORD {
         return CheckAnswer::Refused(Refusal::ShortBuffer);
     }
     if !tables::limits::limits_sound(lower, upper, shape.m, cells) {
         return CheckAnswer::Refused(Refusal::GradeLimits);
     }
-    if !scan::scan(network, shape.places(), shape.m) {
+    if !network_scan::scan(network, shape.places(), shape.m) {
         return CheckAnswer::Refused(Refusal::Network);
     }
     first_outside(network, shape, lower, upper, work)
@@ -92,7 +90,7 @@ fn first_outside(
 {
     let cells = shape.cells();
     for cell in 0..cells {
-        let grade = run::grade_at(network, shape, cell, work);
+        let grade = network_run::grade_at(network, shape, cell, work);
         if !grade_within(lower[cell], upper[cell], grade) {
             return CheckAnswer::Outside { cell, grade };
         }

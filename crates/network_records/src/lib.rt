@@ -1,21 +1,24 @@
 // The records of a network, each written whole: record r at byte 16 × r.
 use rules::Gate;
-ghost use Prim.Native.Nat.{ℕ, _+_, _-_, _*_, _≤_, _<_};
+use rules::PLACES;
+use rules::RECORD;
+use rules::kinds;
+ghost use Prim.Native.Nat.{_+_, _-_, _*_, _≤_, _<_};
 ghost use mathlib.Core.Path.{_≡_};
 ghost use lib.Dec.{eqb};
 ghost use lib.ListN.{length};
 ghost use Rattle.rules.specs.Bytes.{at, pick, tabulate};
 ghost use Rattle.rules.specs.Network.{constant, literal, gate, recordBytes, kindOf};
-ghost use Rattle.tables.specs.Part.{part, Laid};
+ghost use Rattle.tables.specs.Part.{Laid};
 ghost use Rattle.network_records.specs.Grades.{Padded};
 
 // Sixteen bytes as record r.
-fn put(net: &mut [u8], r: usize, bytes: [u8; 16])
+fn put(net: &mut [u8], r: usize, bytes: [u8; RECORD])
     requires { ⌜ 16 * r + 16 ≤ length (now net) ⌝ }
     ensures { λ _. ⌜ Laid (now (net .entry)) (16 * r) bytes 16 (now (net .exit)) ⌝ }
 {
-    let a = 16 * r;
-    for j in 0..16 {
+    let a = RECORD * r;
+    for j in 0..RECORD {
         net[a + j] = bytes[j];
     }
 }
@@ -24,15 +27,36 @@ pub fn put_constant(net: &mut [u8], r: usize, grade: u8)
     requires { ⌜ 16 * r + 16 ≤ length (now net) ⌝ }
     ensures { λ _. ⌜ Laid (now (net .entry)) (16 * r) (recordBytes (constant grade)) 16 (now (net .exit)) ⌝ }
 {
-    put(net, r, [0, grade, 0, 0, 0, 0, 0, 0, 0, 0, 0, 0, 0, 0, 0, 0]);
+    put(
+        net,
+        r,
+        [
+            kinds::CONSTANT,
+            grade,
+            0,
+            0,
+            0,
+            0,
+            0,
+            0,
+            0,
+            0,
+            0,
+            0,
+            0,
+            0,
+            0,
+            0,
+        ],
+    );
 }
 
 fn kind(by: Gate) -> u8
     ensures { λ k. ⌜ k ≡ kindOf by ⌝ }
 {
     match by {
-        Gate::Min => 2,
-        Gate::Max => 3,
+        Gate::Min => kinds::MIN,
+        Gate::Max => kinds::MAX,
     }
 }
 
@@ -68,7 +92,7 @@ pub fn put_gate(net: &mut [u8], r: usize, by: Gate, left: usize, right: usize)
     );
 }
 
-fn put_grades(net: &mut [u8], r: usize, condition: u8, grades: [u8; 8])
+fn put_grades(net: &mut [u8], r: usize, condition: u8, grades: [u8; PLACES])
     requires { ⌜ 16 * r + 16 ≤ length (now net) ⌝ }
     ensures { λ _. ⌜ Laid (now (net .entry)) (16 * r) (recordBytes (literal condition grades)) 16 (now (net .exit)) ⌝ }
 {
@@ -76,7 +100,7 @@ fn put_grades(net: &mut [u8], r: usize, condition: u8, grades: [u8; 8])
         net,
         r,
         [
-            1,
+            kinds::LITERAL,
             condition,
             0,
             0,
@@ -97,11 +121,11 @@ fn put_grades(net: &mut [u8], r: usize, condition: u8, grades: [u8; 8])
 }
 
 // The first `card` bytes of a table, then zeros.
-fn grades_of(table: &[u8], card: usize) -> [u8; 8]
+fn grades_of(table: &[u8], card: usize) -> [u8; PLACES]
     requires { ⌜ (card ≤ 8) × (card ≤ length (now table)) ⌝ }
     ensures { λ grades. ⌜ Padded card (at (now (table .entry))) grades ⌝ }
 {
-    let mut grades = [0u8; 8];
+    let mut grades = [0u8; PLACES];
     for v in 0..card {
         grades[v] = table[v];
     }
@@ -121,7 +145,7 @@ pub fn put_selector(net: &mut [u8], r: usize, condition: u8, card: usize, k: usi
     requires { ⌜ (16 * r + 16 ≤ length (now net)) × (card ≤ 8) × (k < card) ⌝ }
     ensures { λ _. ⌜ Laid (now (net .entry)) (16 * r) (recordBytes (literal condition (tabulate card (λ v. pick (eqb v k) top 0)))) 16 (now (net .exit)) ⌝ }
 {
-    let mut grades = [0u8; 8];
+    let mut grades = [0u8; PLACES];
     grades[k] = top;
     put_grades(net, r, condition, grades);
 }

@@ -8,15 +8,14 @@ use Rattle.rules.specs.Refusal.{refusalNumber}
 use Rattle.rules.specs.NetworkCalls.{CheckResult}
 use Rattle.rules.specs.Verdict.{Verdict, refused, verdictNumber}
 use Rattle.shape.specs.declared.Shape.{Shape}
-use Rattle.shape.specs.declared.ShapeAnswer.the-variants as shapes
 use Rattle.shape.specs.Shapes.{shapeOfBytes}
 use Rattle.network.specs.declared.CheckAnswer.{CheckAnswer}
 use Rattle.network.specs.declared.CheckAnswer.the-variants as answers
 use Rattle.network.specs.Checking.{checkVerdict, checkRows, Checked}
-use Rattle.network.proofs.WorkLaws.{kept-same}
-use Rattle.panel.specs.Answers.{lentShape, lent, callNumber, resultNumber, checkNumber, FewCells}
+use Rattle.panel_answers.specs.Answers.{lentShape, lent, callNumber, resultNumber, checkNumber, FewCells}
 use Rattle.panel.specs.Checks.{FirstOutside, Checks}
-use Rattle.panel.proofs.RefusalLaws.{small}
+use Rattle.laws.proofs.RefusalLaws.{small}
+use Rattle.laws.proofs.ByteLaws.{past-same}
 use Rattle.panel.proofs.ShapeLaws.{Made, ten-lent, lent-refused}
 use Rattle.panel.proofs.OutsideLaws.{Outside, outside-is}
 
@@ -76,7 +75,7 @@ module _ (net bytes lower upper work : List ℕ) (r : ℕ) where
         kept = f .kept;
       }
 
-  pub check-refuses : (q : Refusal) → shapeOfBytes bytes ≡ shapes.Refused q → r ≡ 65536 + refusalNumber q → Checks net bytes lower upper work r work
+  pub check-refuses : (q : Refusal) → shapeOfBytes bytes ≡ refused q → r ≡ 65536 + refusalNumber q → Checks net bytes lower upper work r work
   check-refuses q e number =
       let same : refused q ≡ lent bytes rows = sym (lent-refused bytes e rows (λ y u. rw u)) in
       record {
@@ -85,5 +84,5 @@ module _ (net bytes lower upper work : List ℕ) (r : ℕ) where
         within-when = λ z h. let n : refusalNumber q ≡ 0 = ap verdictNumber same ∙ z in absurd (omega (arith, small q .0));
         outside-means = λ low high. absurd (omega arith);
         refusal-keeps = λ h. refl;
-        kept = kept-same net work;
+        kept = past-same;
       }

@@ -8,15 +8,15 @@ use Rattle.rules.specs.declared.Refusal.{Refusal}
 use Rattle.rules.specs.Refusal.{refusalNumber}
 use Rattle.rules.specs.Network.{Record}
 use Rattle.rules.specs.Verdict.{Verdict, accepted, refused}
+use Rattle.laws.proofs.ByteLaws.{past-same}
 use Rattle.shape.specs.declared.Shape.{Shape}
-use Rattle.shape.specs.declared.ShapeAnswer.the-variants as shapes
 use Rattle.shape.specs.Shapes.{shapeOfBytes}
 use Rattle.compile.specs.declared.CompileAnswer.{CompileAnswer}
 use Rattle.compile.specs.declared.CompileAnswer.the-variants.{Records, Refused}
 use Rattle.compile.specs.Compiling as compiling
-use Rattle.compile.specs.Compiling.{compileAnswer, compileRows, networkAfter, Demand3}
+use Rattle.compile.specs.Compiling.{compileAnswer, compileRows, networkAfter, KeepsTable}
 use Rattle.compile.proofs.CountLaws.{few-records}
-use Rattle.panel.specs.Answers.{lentShape, lent, callNumber, compileNumber, FewRecords}
+use Rattle.panel_answers.specs.Answers.{lentShape, lent, callNumber, compileNumber, FewRecords}
 use Rattle.panel.specs.Compiles.{Compiles}
 use Rattle.panel.proofs.ShapeLaws.{Made, ten-lent, lent-refused}
 
@@ -52,16 +52,16 @@ module _ (bytes lower upper work network : List ℕ) (r : ℕ) where
         network-after = f .network-after ∙ ap (λ (v : Verdict (List Record)). networkAfter v network) same;
         refusal-keeps = λ h. keeps a work work′ (few f) (f .refusal-keeps) (omega arith);
         kept = f .kept;
-        demand = λ h. subst (λ (n : ℕ). Demand3 (lentShape bytes) lower upper n network′) (sym number) (f .demand (compileNumber a) (is-count a (omega arith)));
+        keeps-table = λ h. subst (λ (n : ℕ). KeepsTable (lentShape bytes) lower upper n network′) (sym number) (f .keeps-table (compileNumber a) (is-count a (omega arith)));
       }
 
-  pub compile-refuses : (q : Refusal) → shapeOfBytes bytes ≡ shapes.Refused q → r ≡ 65536 + refusalNumber q → Compiles bytes lower upper work network r work network
+  pub compile-refuses : (q : Refusal) → shapeOfBytes bytes ≡ refused q → r ≡ 65536 + refusalNumber q → Compiles bytes lower upper work network r work network
   compile-refuses q e number =
       let same : refused q ≡ lent bytes rows = sym (lent-refused bytes e rows (λ y u. rw u)) in
       record {
         answer = number ∙ ap (λ (v : Verdict (List Record)). callNumber v length) same;
         network-after = ap (λ (v : Verdict (List Record)). networkAfter v network) same;
         refusal-keeps = λ h. refl;
-        kept = record { long = refl; rest = refl };
-        demand = λ h. absurd (omega arith);
+        kept = past-same;
+        keeps-table = λ h. absurd (omega arith);
       }

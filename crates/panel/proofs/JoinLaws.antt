@@ -15,14 +15,13 @@ use Rattle.rules.specs.Cell.{cells}
 use Rattle.rules.specs.Limits.{Limits, limitsOf}
 use Rattle.rules.specs.Verdict.{Verdict, accepted, refused}
 use Rattle.shape.specs.declared.Shape.{Shape}
-use Rattle.shape.specs.declared.ShapeAnswer.the-variants as shapes
 use Rattle.shape.specs.Shapes.{placesOf, shapeOfBytes}
 use Rattle.join.specs.declared.JoinAnswer.{JoinAnswer}
 use Rattle.join.specs.declared.JoinAnswer.the-variants as answers
 use Rattle.join.specs.Calls.{joinAnswer, lowerAfter, upperAfter, Offered, firstLengths, firstVerdict, JoinFirst, secondLengths, secondVerdict, JoinSecond}
-use Rattle.panel.specs.Answers.{lentShape, lent, callNumber, joinNumber}
+use Rattle.panel_answers.specs.Answers.{lentShape, lent, callNumber, joinNumber}
 use Rattle.panel.specs.Joins.{Joins, Joined, JoinsFirst, JoinsSecond}
-use Rattle.panel.proofs.RefusalLaws.{only-no-join}
+use Rattle.laws.proofs.RefusalLaws.{only-no-join}
 use Rattle.panel.proofs.ShapeLaws.{Made, FirstFour, ten-lent, unsound, lent-refused}
 
 -- the number of a verdict is that of the answer to it
@@ -60,7 +59,7 @@ module _ (gate : Gate) (bytes lower upper : List ℕ) (s t : ℕ) where
         }
 
     -- it is refused
-    refused-joined : FirstFour rows → (q : Refusal) → shapeOfBytes bytes ≡ shapes.Refused q → r ≡ 65536 + refusalNumber q
+    refused-joined : FirstFour rows → (q : Refusal) → shapeOfBytes bytes ≡ refused q → r ≡ 65536 + refusalNumber q
         → Joined gate bytes lower upper s t rows lengths toLower toUpper r toLower toUpper
     refused-joined four q e number =
         let same : refused q ≡ lent bytes rows = sym (lent-refused bytes e rows four) in
@@ -84,7 +83,7 @@ module _ (gate : Gate) (bytes lower upper : List ℕ) (s t : ℕ) where
           exact = λ e. f .exact (is-limits a (sym number ∙ e));
         }
 
-    pub first-refuses : (q : Refusal) → shapeOfBytes bytes ≡ shapes.Refused q → r ≡ 65536 + refusalNumber q
+    pub first-refuses : (q : Refusal) → shapeOfBytes bytes ≡ refused q → r ≡ 65536 + refusalNumber q
         → JoinsFirst gate bytes lower upper s t toLower toUpper r toLower toUpper
     first-refuses q e number =
         record {
@@ -107,7 +106,7 @@ module _ (gate : Gate) (bytes lower upper : List ℕ) (s t : ℕ) where
           exact = λ e. f .exact (is-limits a (sym number ∙ e));
         }
 
-    pub second-refuses : (q : Refusal) → shapeOfBytes bytes ≡ shapes.Refused q → r ≡ 65536 + refusalNumber q
+    pub second-refuses : (q : Refusal) → shapeOfBytes bytes ≡ refused q → r ≡ 65536 + refusalNumber q
         → JoinsSecond gate bytes lower upper s t g toLower toUpper r toLower toUpper
     second-refuses q e number =
         record {

@@ -6,22 +6,21 @@ use mathlib.Core.List.{List, [], _∷_}
 use native.Mathlib.Omega.{arith}
 use lib.Dec.{T, leb, leb→le, le→leb}
 use lib.ListN.{length}
-use Rattle.rules.specs.declared.Refusal.{Refusal}
 use Rattle.rules.specs.declared.Refusal.the-variants.{ShapeRange, GradeLimits, ShortBuffer, Network}
 use Rattle.rules.specs.Bytes.{at}
 use Rattle.rules.specs.Cell.{cells}
 use Rattle.rules.specs.Limits.{Limits, limitsOf, limitsSound}
-use Rattle.rules.specs.Verdict.{Verdict, accepted, unless, roomy}
+use Rattle.rules.specs.Verdict.{accepted, roomy}
 use Rattle.rules.specs.Network.{evaluate, networkSound}
 use Rattle.rules.specs.NetworkCalls.{outside, checkFrom}
-use Rattle.laws.proofs.TestLaws.{and-l, and-r, and-i, by-order}
+use Rattle.laws.proofs.TestLaws.{and-l, and-r, and-i, by-order, passes}
 use Rattle.laws.proofs.AcceptLaws.{accepted-table}
+use Rattle.laws.proofs.VerdictLaws.{row-passed, outside-within}
 use Rattle.shape.specs.declared.Shape.{Shape}
 use Rattle.shape.specs.Shapes.{cardsOf, placesOf, isSound}
 use Rattle.shape.proofs.ShapeLaws.{eight-cards}
 use Rattle.network.specs.Checking.{checkRows}
-use Rattle.network.proofs.TestLaws.{passes}
-use Rattle.network.proofs.BelowLaws.{evaluate-below}
+use Rattle.network_run.proofs.BelowLaws.{evaluate-below}
 use Rattle.network.proofs.CallLaws.{roomTest}
 use Rattle.network.proofs.CheckLaws.{cellWithin}
 use Rattle.panel.specs.Checks.{FirstOutside}
@@ -44,7 +43,7 @@ module _ (ks : List ℕ) (l : Limits) (net : List ℕ) where
         high = omega (arith, f .high);
         grade = f .grade;
         out = f .out;
-        first = λ i a b. by-order i c (λ le. let same : c ≡ i = omega arith in subst (λ (k : ℕ). T (cellWithin ks l net k)) same (passes (cellWithin ks l net c) t)) (λ lt. f .first i lt b);
+        first = λ i a b. by-order i c (λ le. let same : c ≡ i = omega arith in subst (λ (k : ℕ). T (cellWithin ks l net k)) same (passes t)) (λ lt. f .first i lt b);
       }
   found-by false n c d q t later e =
       let cell : c ≡ d = cc in
@@ -58,13 +57,8 @@ module _ (ks : List ℕ) (l : Limits) (net : List ℕ) where
       }
 
   found : (n c d q : ℕ) → checkFrom ks l net c n ≡ outside d q → Found c n d q
-  found zero c d q e = let z : _≡_ {A = ℕ} 0 1 = cc in absurd (omega arith)
+  found zero c d q e = outside-within (sym e)
   found (suc n) c d q e = found-by (cellWithin ks l net c) n c d q refl (found n (suc c) d q) e
-
--- a row that did not stop the call
-passed-row : {A : Type 0} (b : Bool) (q : Refusal) (v : Verdict A) (x : A) → unless b q v ≡ accepted x → (b ≡ true) × (v ≡ accepted x)
-passed-row true q v x e = (refl, e)
-passed-row false q v x e = let z : _≡_ {A = ℕ} 0 1 = cc in absurd (omega arith)
 
 -- what a check that finds a cell outside has passed, and found
 pub record Outside (shape : Shape) (net lower upper : List ℕ) (cell grade : ℕ) : Type 0 where
@@ -77,13 +71,13 @@ module _ (shape : Shape) (net lower upper work : List ℕ) (cell grade : ℕ) wh
   outside-is e =
       let ks : List ℕ = placesOf shape in
       let limits : Limits = limitsOf lower upper in
-      let sound = passed-row (isSound shape) ShapeRange _ (outside cell grade) e in
-      let room = passed-row (roomy (cells ks) (length lower ∷ length upper ∷ []) && roomTest shape net work) ShortBuffer _ (outside cell grade) (sound .1) in
-      let ordered = passed-row (limitsSound ks (shape .m) limits) GradeLimits _ (outside cell grade) (room .1) in
-      let network = passed-row (networkSound ks (shape .m) net) Network _ (outside cell grade) (ordered .1) in
+      let sound = row-passed (isSound shape) ShapeRange _ e in
+      let room = row-passed (roomy (cells ks) (length lower ∷ length upper ∷ []) && roomTest shape net work) ShortBuffer _ (sound .1) in
+      let ordered = row-passed (limitsSound ks (shape .m) limits) GradeLimits _ (room .1) in
+      let network = row-passed (networkSound ks (shape .m) net) Network _ (ordered .1) in
       let result : checkFrom ks limits net 0 (cells ks) ≡ outside cell grade = cc in
       let f = found ks limits net (cells ks) 0 cell grade result in
-      let table = accepted-table (shape .n) (cardsOf shape) (shape .m) (eight-cards shape) (passes (isSound shape) (sound .0)) limits (passes (limitsSound ks (shape .m) limits) (ordered .0)) in
+      let table = accepted-table (shape .n) (cardsOf shape) (shape .m) (eight-cards shape) (passes (sound .0)) limits (passes (ordered .0)) in
       let q : ℕ = evaluate ks net cell in
       record {
         cell-few = omega (arith, f .high, table .few-cells);

@@ -3,7 +3,6 @@ use Prim.Native.Nat.{ℕ, _+_, _≤_, _<_}
 use mathlib.Core.Path.{_≡_, refl, sym, ap, _∙_}
 use mathlib.Core.Bool.{Bool, true, false, _&&_}
 use mathlib.Core.List.{List, _++_}
-use native.Mathlib.Omega.{arith}
 use borrow.Author.Tests.{le-leb, lt-leb}
 use lib.Dec.{leb}
 use lib.ListN.{length, take, drop}
@@ -15,12 +14,13 @@ use Rattle.rules.specs.Shape.{places}
 use Rattle.rules.specs.Verdict.{Verdict, accepted, refused, unless, andThen}
 use Rattle.rules.specs.TableFile.{Seen, judgeFile, judgeReading}
 use Rattle.shape.specs.declared.Shape.{Shape}
-use Rattle.shape.specs.Shapes.{shapeFrom, shapeBytes}
+use Rattle.shape.specs.Shapes.{shapeBytes}
 use Rattle.table_file.specs.declared.TableAnswer.{TableAnswer}
 use Rattle.table_file.specs.declared.TableAnswer.the-variants.{Table, Refused}
 use Rattle.tables.specs.Part.{part}
-use Rattle.table_file.specs.Reading.{readAnswer, lowerAfter, upperAfter, Read}
-use Rattle.panel.specs.Answers.{callNumber}
+use Rattle.table_file.specs.Reading.{lowerAfter, upperAfter, Read}
+use Rattle.table_file.proofs.ReadLaws.{was-table, was-refused}
+use Rattle.panel_answers.specs.Answers.{callNumber}
 use Rattle.panel.specs.Reads.{readVerdict, noRoom, shapeAfter, Reads}
 
 -- a verdict that a further row never stops, or always
@@ -52,19 +52,6 @@ short-number file v e = ap (λ (w : Verdict Seen). callNumber (andThen w short) 
 pub ten-bytes : (x : Shape) (bytes to : List ℕ) → bytes ≡ shapeBytes x → part bytes 0 10 ++ drop 10 to ≡ shapeBytes x ++ drop 10 to
 unfolding part
 ten-bytes x bytes to e = ap (λ (l : List ℕ). take 10 l ++ drop 10 to) e
-
--- the verdict behind an answer
-was-refused : (v : Verdict Seen) (q : Refusal) → Refused q ≡ readAnswer v → v ≡ refused q
-was-refused (accepted s) q e = let z : _≡_ {A = ℕ} 0 1 = cc in absurd (omega arith)
-was-refused (refused p) q e = cc
-
-table-number : (v : Verdict Seen) (x : Shape) → Table x ≡ readAnswer v → 0 ≡ callNumber v (λ s. 0)
-table-number (accepted s) x e = refl
-table-number (refused p) x e = let z : _≡_ {A = ℕ} 0 1 = cc in absurd (omega arith)
-
-table-shape : (v : Verdict Seen) (x : Shape) (shape : List ℕ) → Table x ≡ readAnswer v → shapeBytes x ++ drop 10 shape ≡ shapeAfter v shape
-table-shape (accepted s) x shape e = let same : x ≡ shapeFrom (s .n) (s .cards) (s .m) = cc in ap (λ (y : Shape). shapeBytes y ++ drop 10 shape) same
-table-shape (refused p) x shape e = let z : _≡_ {A = ℕ} 0 1 = cc in absurd (omega arith)
 
 module _ (file shape lower upper : List ℕ) where
   abbrev judged : Verdict Seen
@@ -100,7 +87,7 @@ module _ (file shape lower upper : List ℕ) where
 
     pub read-refuses : (t : TableAnswer) (q : Refusal) (r : ℕ) (lower′ upper′ : List ℕ) → t ≡ Refused q → Read file lower upper t lower′ upper′ → r ≡ 65536 + refusalNumber q → Reads file shape lower upper r shape lower′ upper′
     read-refuses t q r lower′ upper′ e read number =
-        let was : judged ≡ refused q = was-refused judged q (sym e ∙ read .answer) in
+        let was : judged ≡ refused q = was-refused judged (sym e ∙ read .answer) in
         by-verdict judged r shape lower′ upper′ same
         (number ∙ sym (ap (λ (v : Verdict Seen). callNumber v (λ s. 0)) was))
         (sym (ap (λ (v : Verdict Seen). shapeAfter v shape) was))
@@ -108,5 +95,8 @@ module _ (file shape lower upper : List ℕ) where
 
     pub reads : (t : TableAnswer) (x : Shape) (shape′ lower′ upper′ : List ℕ) → t ≡ Table x → Read file lower upper t lower′ upper′ → shape′ ≡ shapeBytes x ++ drop 10 shape → Reads file shape lower upper 0 shape′ lower′ upper′
     reads t x shape′ lower′ upper′ e read put =
-        let was : Table x ≡ readAnswer judged = sym e ∙ read .answer in
-        by-verdict judged 0 shape′ lower′ upper′ same (table-number judged x was) (put ∙ table-shape judged x shape was) (read .lower-after) (read .upper-after)
+        let was = was-table judged (sym e ∙ read .answer) in
+        by-verdict judged 0 shape′ lower′ upper′ same
+        (sym (ap (λ (v : Verdict Seen). callNumber v (λ s. 0)) (was .1)))
+        (put ∙ ap (λ (y : Shape). shapeBytes y ++ drop 10 shape) (was .2) ∙ sym (ap (λ (v : Verdict Seen). shapeAfter v shape) (was .1)))
+        (read .lower-after) (read .upper-after)

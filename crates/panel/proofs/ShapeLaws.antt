@@ -11,12 +11,13 @@ use Rattle.rules.specs.declared.Refusal.{Refusal}
 use Rattle.rules.specs.declared.Refusal.the-variants.{ShapeRange}
 use Rattle.rules.specs.Bytes.{at}
 use Rattle.rules.specs.Shape.{shapeSound}
-use Rattle.rules.specs.Verdict.{Verdict, refused}
+use Rattle.rules.specs.Verdict.{Verdict, accepted, refused, unless}
+use Rattle.laws.proofs.TestLaws.{passes}
+use Rattle.laws.proofs.VerdictLaws.{refused-accepted, accepted-same, refused-same, row-passed}
 use Rattle.shape.specs.declared.Shape.{Shape}
-use Rattle.shape.specs.declared.ShapeAnswer.the-variants.{Accepted, Refused}
-use Rattle.shape.specs.Shapes.{isSound, shapeOfBytes}
+use Rattle.shape.specs.Shapes.{isSound, newShape, shapeOfBytes}
 use Rattle.shape.proofs.ShapeLaws.{sound-from}
-use Rattle.panel.specs.Answers.{lentShape, lent}
+use Rattle.panel_answers.specs.Answers.{lentShape, lent}
 
 -- bytes that are accepted: ten, and this is their shape
 pub record Made (b : List ℕ) (s : Shape) : Type 0 where
@@ -28,15 +29,12 @@ abbrev pub FirstFour : {A : Type 0} → (Shape → Verdict A) → Type 0
 FirstFour rows = (s : Shape) → isSound s ≡ false → rows s ≡ refused ShapeRange
 
 module _ (b : List ℕ) where
-  made-by : (q sound : Bool) (x s : Shape) → cond q (cond sound (Accepted x) (Refused ShapeRange)) (Refused ShapeRange) ≡ Accepted s → (q ≡ true) × (s ≡ x)
-  made-by true true x s e = (refl, cc)
-  made-by true false x s e = let z : _≡_ {A = ℕ} 0 1 = cc in absurd (omega arith)
-  made-by false sound x s e = let z : _≡_ {A = ℕ} 0 1 = cc in absurd (omega arith)
-
-  pub made : {s : Shape} → shapeOfBytes b ≡ Accepted s → Made b s
-  made {s} e =
-      let m = made-by (eqb (length b) 10) (shapeSound (at b 0) (take 8 (drop 1 b)) (at b 9)) (lentShape b) s e in
-      record { ten = eqb-true (length b) 10 (m .0); same = m .1 }
+  pub made : {s : Shape} → shapeOfBytes b ≡ accepted s → Made b s
+  made {s} e = go (eqb (length b) 10) refl e
+    where
+      go : (q : Bool) → eqb (length b) 10 ≡ q → cond q (newShape (at b 0) (take 8 (drop 1 b)) (at b 9)) (refused ShapeRange) ≡ accepted s → Made b s
+      go true q h = record { ten = eqb-true (length b) 10 q; same = sym (accepted-same (row-passed (shapeSound (at b 0) (take 8 (drop 1 b)) (at b 9)) ShapeRange _ h .1)) }
+      go false q h = refused-accepted h
 
   -- ten bytes are judged by the rows
   pub ten-lent : {A : Type 0} (rows : Shape → Verdict A) → length b ≡ 10 → lent b rows ≡ rows (lentShape b)
@@ -45,12 +43,12 @@ module _ (b : List ℕ) where
   pub made-lent : {A : Type 0} {s : Shape} (rows : Shape → Verdict A) → Made b s → rows s ≡ lent b rows
   made-lent rows m = ap rows (m .same) ∙ sym (ten-lent rows (m .ten))
 
-  unmade-by : (q sound : Bool) (x : Shape) (r : Refusal) → cond q (cond sound (Accepted x) (Refused ShapeRange)) (Refused ShapeRange) ≡ Refused r → (r ≡ ShapeRange) × (q ≡ true → sound ≡ false)
-  unmade-by true true x r e = let z : _≡_ {A = ℕ} 0 1 = cc in absurd (omega arith)
-  unmade-by true false x r e = (cc, λ h. refl)
-  unmade-by false sound x r e = (cc, λ h. let z : _≡_ {A = ℕ} 0 1 = cc in absurd (omega arith))
+  unmade-by : (q sound : Bool) (x : Shape) (r : Refusal) → cond q (unless sound ShapeRange (accepted x)) (refused ShapeRange) ≡ refused r → (r ≡ ShapeRange) × (q ≡ true → sound ≡ false)
+  unmade-by true true x r e = refused-accepted (sym e)
+  unmade-by true false x r e = (refused-same (sym e), λ h. refl)
+  unmade-by false sound x r e = (refused-same (sym e), λ h. absurd (passes h))
 
-  module _ {r : Refusal} (e : shapeOfBytes b ≡ Refused r) where
+  module _ {r : Refusal} (e : shapeOfBytes b ≡ refused r) where
     abbrev unmade : (r ≡ ShapeRange) × (eqb (length b) 10 ≡ true → shapeSound (at b 0) (take 8 (drop 1 b)) (at b 9) ≡ false)
     unmade = unmade-by (eqb (length b) 10) (shapeSound (at b 0) (take 8 (drop 1 b)) (at b 9)) (lentShape b) r e
 

@@ -2,16 +2,16 @@
 use Prim.Native.Nat.{ℕ, _-_, _/_, _%_, _≤_, _<_}
 use mathlib.Core.Path.{_≡_}
 use mathlib.Core.List.{List}
-use Rattle.rules.specs.Bytes.{at}
+use lib.ListN.{length}
+use Rattle.rules.specs.Bytes.{at, Past}
 use Rattle.rules.specs.Cell.{cells}
 use Rattle.rules.specs.Verdict.{Verdict, verdictNumber}
 use Rattle.rules.specs.Network.{evaluate}
 use Rattle.rules.specs.NetworkCalls.{CheckResult}
 use Rattle.shape.specs.declared.Shape.{Shape}
 use Rattle.shape.specs.Shapes.{placesOf}
-use Rattle.network.specs.Grades.{Kept}
 use Rattle.network.specs.Checking.{checkRows, EveryWithin}
-use Rattle.panel.specs.Answers.{lentShape, lent, callNumber, resultNumber}
+use Rattle.panel_answers.specs.Answers.{lentShape, lent, callNumber, resultNumber}
 
 -- the first cell whose grade is not between its limits, and that grade
 pub record FirstOutside (shape : Shape) (net lower upper : List ℕ) (cell grade : ℕ) : Type 0 where
@@ -32,4 +32,4 @@ module _ (net bytes lower upper work : List ℕ) where
     pub within-when : verdictNumber verdict ≡ 0 → EveryWithin (lentShape bytes) net lower upper → r ≡ 0
     pub outside-means : 1 ≤ r → r < 65536 → FirstOutside (lentShape bytes) net lower upper ((r - 1) / 16) ((r - 1) % 16)
     pub refusal-keeps : 65536 ≤ r → after ≡ work
-    pub kept : Kept net work after
+    pub kept : Past (length net / 16) work after

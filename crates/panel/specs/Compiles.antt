@@ -1,12 +1,15 @@
 -- What `grades_compile` promises.
-use Prim.Native.Nat.{ℕ, _≤_, _<_}
+use Prim.Native.Nat.{ℕ, _≤_, _<_, _*_}
 use mathlib.Core.Path.{_≡_}
 use mathlib.Core.List.{List}
 use lib.ListN.{length}
 use Rattle.rules.specs.Verdict.{Verdict}
 use Rattle.rules.specs.Network.{Record}
-use Rattle.compile.specs.Compiling.{compileRows, networkAfter, Kept, Demand3}
-use Rattle.panel.specs.Answers.{lentShape, lent, callNumber}
+use Rattle.rules.specs.Bytes.{Past}
+use Rattle.rules.specs.Cell.{cells}
+use Rattle.shape.specs.Shapes.{placesOf}
+use Rattle.compile.specs.Compiling.{compileRows, networkAfter, KeepsTable}
+use Rattle.panel_answers.specs.Answers.{lentShape, lent, callNumber}
 
 module _ (bytes lower upper work network : List ℕ) where
   abbrev verdict : Verdict (List Record)
@@ -18,5 +21,5 @@ module _ (bytes lower upper work network : List ℕ) where
     pub answer : r ≡ callNumber verdict length
     pub network-after : network′ ≡ networkAfter verdict network
     pub refusal-keeps : 65536 ≤ r → work′ ≡ work
-    pub kept : Kept (lentShape bytes) work work′
-    pub demand : r < 65536 → Demand3 (lentShape bytes) lower upper r network′
+    pub kept : Past (16 * cells (placesOf (lentShape bytes))) work work′
+    pub keeps-table : r < 65536 → KeepsTable (lentShape bytes) lower upper r network′

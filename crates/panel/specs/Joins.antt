@@ -15,7 +15,7 @@ use Rattle.rules.specs.Demands.{Grades, Inside, Pair}
 use Rattle.shape.specs.declared.Shape.{Shape}
 use Rattle.shape.specs.Shapes.{placesOf}
 use Rattle.join.specs.Calls.{lowerAfter, upperAfter, Offered, firstLengths, firstVerdict, secondLengths, secondVerdict}
-use Rattle.panel.specs.Answers.{lentShape, lent, callNumber}
+use Rattle.panel_answers.specs.Answers.{lentShape, lent, callNumber}
 
 module _ (gate : Gate) (bytes lower upper : List ℕ) (s t : ℕ) where
   abbrev pub ks : List ℕ

@@ -9,7 +9,7 @@ use Rattle.rules.specs.Verdict.{Verdict, accepted, refused, unless, andThen}
 use Rattle.rules.specs.TableFile.{Seen, judgeFile, judgeReading}
 use Rattle.shape.specs.Shapes.{shapeFrom, shapeBytes}
 use Rattle.table_file.specs.Reading.{lowerAfter, upperAfter}
-use Rattle.panel.specs.Answers.{callNumber}
+use Rattle.panel_answers.specs.Answers.{callNumber}
 
 -- the rows of document 01 for reading, with the shape's buffer among those that may be too short; lengths of the three buffers
 abbrev pub readVerdict : List ℕ → ℕ → ℕ → ℕ → Verdict Seen

@@ -1,6 +1,5 @@
 // The join calls, by either gate.
 ghost use Rattle.panel.specs.Joins.{JoinsFirst, JoinsSecond};
-use crate::answers;
 use rules::Gate;
 use shape::Shape;
 use shape::ShapeAnswer;
@@ -18,9 +17,9 @@ pub fn first(
     ensures { λ r. ⌜ JoinsFirst gate (now (shape .entry)) (now (lower .entry)) (now (upper .entry)) s t (now («out_lower» .entry)) (now («out_upper» .entry)) r (now («out_lower» .exit)) (now («out_upper» .exit)) ⌝ }
 {
     match Shape::from_bytes(shape) {
-        ShapeAnswer::Refused(refusal) => answers::of_refusal(refusal),
+        ShapeAnswer::Refused(refusal) => panel_answers::of_refusal(refusal),
         ShapeAnswer::Accepted(shape) => {
-            answers::of_join(join::join_first(
+            panel_answers::of_join(join::join_first(
                 shape,
                 lower,
                 upper,
@@ -48,9 +47,9 @@ pub fn second(
     ensures { λ r. ⌜ JoinsSecond gate (now (shape .entry)) (now (lower .entry)) (now (upper .entry)) s t (now (g .entry)) (now («out_lower» .entry)) (now («out_upper» .entry)) r (now («out_lower» .exit)) (now («out_upper» .exit)) ⌝ }
 {
     match Shape::from_bytes(shape) {
-        ShapeAnswer::Refused(refusal) => answers::of_refusal(refusal),
+        ShapeAnswer::Refused(refusal) => panel_answers::of_refusal(refusal),
         ShapeAnswer::Accepted(shape) => {
-            answers::of_join(join::join_second(
+            panel_answers::of_join(join::join_second(
                 shape,
                 lower,
                 upper,

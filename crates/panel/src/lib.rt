@@ -12,7 +12,6 @@ use shape::Shape;
 use shape::ShapeAnswer;
 use table_file::TableAnswer;
 
-mod answers;
 mod joins;
 mod reading;
 
@@ -23,9 +22,9 @@ pub extern "C" fn grades_evaluate(network: &[u8], shape: &[u8], work: &mut [u8],
 {
     match Shape::from_bytes(shape) {
         ShapeAnswer::Accepted(shape) => {
-            answers::of_evaluation(network::evaluate(network, shape, work, cell as usize))
+            panel_answers::of_evaluation(network::evaluate(network, shape, work, cell as usize))
         }
-        ShapeAnswer::Refused(refusal) => answers::of_evaluation(Evaluation::Refused(refusal)),
+        ShapeAnswer::Refused(refusal) => panel_answers::of_evaluation(Evaluation::Refused(refusal)),
     }
 }
 
@@ -43,7 +42,7 @@ pub extern "C" fn grades_read(
         return reading::no_room(file);
     }
     match table_file::read_table(file, lower, upper) {
-        TableAnswer::Refused(refusal) => answers::of_refusal(refusal),
+        TableAnswer::Refused(refusal) => panel_answers::of_refusal(refusal),
         TableAnswer::Table(table) => {
             reading::put_shape(table, shape);
             0
@@ -150,9 +149,9 @@ pub extern "C" fn grades_compile(
     ensures { λ r. ⌜ Compiles (now (shape .entry)) (now (lower .entry)) (now (upper .entry)) (now (work .entry)) (now (network .entry)) r (now (work .exit)) (now (network .exit)) ⌝ }
 {
     match Shape::from_bytes(shape) {
-        ShapeAnswer::Refused(refusal) => answers::of_refusal(refusal),
+        ShapeAnswer::Refused(refusal) => panel_answers::of_refusal(refusal),
         ShapeAnswer::Accepted(shape) => {
-            answers::of_compile(compile::compile(shape, lower, upper, work, network))
+            panel_answers::of_compile(compile::compile(shape, lower, upper, work, network))
         }
     }
 }
@@ -170,9 +169,9 @@ pub extern "C" fn grades_check(
     ensures { λ r. ⌜ Checks (now (network .entry)) (now (shape .entry)) (now (lower .entry)) (now (upper .entry)) (now (work .entry)) r (now (work .exit)) ⌝ }
 {
     match Shape::from_bytes(shape) {
-        ShapeAnswer::Refused(refusal) => answers::of_refusal(refusal),
+        ShapeAnswer::Refused(refusal) => panel_answers::of_refusal(refusal),
         ShapeAnswer::Accepted(shape) => {
-            answers::of_check(network::check(network, shape, lower, upper, work))
+            panel_answers::of_check(network::check(network, shape, lower, upper, work))
         }
     }
 }

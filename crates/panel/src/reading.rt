@@ -4,12 +4,11 @@ ghost use mathlib.Core.Path.{_≡_};
 ghost use mathlib.Core.List.{_++_};
 ghost use lib.ListN.{length, drop};
 ghost use Rattle.shape.specs.Shapes.{shapeBytes};
-ghost use Rattle.panel.specs.Answers.{callNumber};
+ghost use Rattle.panel_answers.specs.Answers.{callNumber};
 ghost use Rattle.panel.specs.Reads.{noRoom};
-use crate::answers;
 use rules::Refusal;
 use shape::Shape;
-use table_file::records::Judged;
+use table_records::Judged;
 use tables::fill;
 
 // The file's own refusal, and if it has none that of the short buffer.
@@ -17,8 +16,8 @@ pub fn no_room(file: &[u8]) -> u32
     ensures { λ r. ⌜ r ≡ callNumber (noRoom (now (file .entry))) (λ s. 0) ⌝ }
 {
     match table_file::judge(file) {
-        Judged::Refused(refusal) => answers::of_refusal(refusal),
-        Judged::Accepted(_) => answers::of_refusal(Refusal::ShortBuffer),
+        Judged::Refused(refusal) => panel_answers::of_refusal(refusal),
+        Judged::Accepted(_) => panel_answers::of_refusal(Refusal::ShortBuffer),
     }
 }
 

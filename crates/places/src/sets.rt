@@ -1,12 +1,13 @@
 // Sets of conditions: bit i of a byte says whether condition i is a member. And the conditions that
 // eight places have.
+use rules::PLACES;
 ghost use Prim.Native.Nat.{_<_};
 ghost use mathlib.Core.Path.{_≡_};
 ghost use lib.Dec.{T};
 ghost use Rattle.rules.specs.Cell.{has, insert, singleton, without, width, lowest};
 ghost use Rattle.rules.specs.Stage.{count};
 
-const BITS: [u8; 8] = [1, 2, 4, 8, 16, 32, 64, 128];
+const BITS: [u8; PLACES] = [1, 2, 4, 8, 16, 32, 64, 128];
 
 // The set of condition i alone.
 pub fn singleton(i: usize) -> u8
@@ -38,11 +39,11 @@ pub fn count(set: u8) -> usize
 }
 
 // The places without the conditions of a set.
-pub fn without(ks: [u8; 8], set: u8) -> [u8; 8]
+pub fn without(ks: [u8; PLACES], set: u8) -> [u8; PLACES]
     ensures { λ r. ⌜ r ≡ without set ks ⌝ }
 {
     let mut left = ks;
-    for i in 0..8 {
+    for i in 0..PLACES {
         if crate::has_member(set, i) {
             left[i] = 1;
         }
@@ -51,11 +52,11 @@ pub fn without(ks: [u8; 8], set: u8) -> [u8; 8]
 }
 
 // How many conditions the places have.
-pub fn width(ks: [u8; 8]) -> usize
+pub fn width(ks: [u8; PLACES]) -> usize
     ensures { λ r. ⌜ r ≡ width ks ⌝ }
 {
     let mut found: usize = 0;
-    for i in 0..8 {
+    for i in 0..PLACES {
         if 1 < ks[i] {
             found += 1;
         }
@@ -64,10 +65,10 @@ pub fn width(ks: [u8; 8]) -> usize
 }
 
 // The condition with the lowest number, 8 where there is none.
-pub fn lowest(ks: [u8; 8]) -> usize
+pub fn lowest(ks: [u8; PLACES]) -> usize
     ensures { λ r. ⌜ r ≡ lowest ks ⌝ }
 {
-    for i in 0..8 {
+    for i in 0..PLACES {
         if 1 < ks[i] {
             return i;
         }

@@ -8,15 +8,19 @@ use native.Mathlib.Omega.{arith}
 use lib.Dec.{leb}
 use lib.ListN.{length, take, drop, length-take, length-drop}
 use lib.Seq.{getD-take, getD-drop}
+use Rattle.rules.specs.declared.Refusal.{Refusal}
 use Rattle.rules.specs.declared.Refusal.the-variants.{ShapeRange}
 use Rattle.rules.specs.Bytes.{at, all, tabulate}
 use Rattle.rules.specs.Cell.{Positive, cells}
 use Rattle.rules.specs.Shape.{maxConditions, maxGrades, maxCells, placeSound, shapeSound}
+use Rattle.rules.specs.Verdict.{Verdict, accepted, refused, answerOf}
+use Rattle.laws.proofs.VerdictLaws.{row-pass, row-stop}
 use Rattle.laws.proofs.TableLaws.{tabulate-self, tabulate-same}
 use Rattle.laws.proofs.AcceptLaws.{places-positive, length-places}
 use Rattle.shape.specs.declared.Shape.{Shape}
+use Rattle.shape.specs.declared.ShapeAnswer.{ShapeAnswer}
 use Rattle.shape.specs.declared.ShapeAnswer.the-variants.{Accepted, Refused}
-use Rattle.shape.specs.Shapes.{cardsOf, placesOf, isSound, shapeFrom, newShape, shapeOfBytes}
+use Rattle.shape.specs.Shapes.{cardsOf, placesOf, isSound, shapeFrom, shapeBytes, newShape, shapeOfBytes, shapeAnswer, shapeMeans, Makes}
 
 pub eight-cards : (s : Shape) → length (cardsOf s) ≡ 8
 unfolding cardsOf
@@ -55,19 +59,45 @@ module _ (s : Shape) where
       → leb (cells (placesOf s)) maxCells ≡ e → isSound s ≡ (a && (b && ((c && d) && e)))
   sound-by a b c d e p q r t u = cc
 
--- what the two ways of `new` answer
-module _ (n : ℕ) (l : List ℕ) (m : ℕ) (eight : length l ≡ 8) where
-  pub new-sound : isSound (shapeFrom n l m) ≡ true → newShape n l m ≡ Accepted (shapeFrom n l m)
-  new-sound e = ap (λ (b : Bool). cond b (Accepted (shapeFrom n l m)) (Refused ShapeRange)) (sym (sound-from n l m eight) ∙ e)
+-- the promise of a call that makes a shape, by its verdict
+means : (v : Verdict Shape) → shapeMeans (shapeAnswer v) ≡ answerOf shapeBytes v
+means (accepted s) = refl
+means (refused q) = refl
 
-  pub new-unsound : isSound (shapeFrom n l m) ≡ false → newShape n l m ≡ Refused ShapeRange
-  new-unsound e = ap (λ (b : Bool). cond b (Accepted (shapeFrom n l m)) (Refused ShapeRange)) (sym (sound-from n l m eight) ∙ e)
+pub makes-as : (v w : Verdict Shape) → v ≡ w → Makes v (shapeAnswer w)
+makes-as v w e = record { answer = ap shapeAnswer (sym e); means = means w ∙ ap (answerOf shapeBytes) (sym e) }
+
+-- and the verdict behind its answer
+accepted-refused : {P : Type 0} {s : Shape} {q : Refusal} → Accepted s ≡ Refused q → P
+accepted-refused e = let z : _≡_ {A = ℕ} 0 1 = cc in absurd (omega arith)
+
+was-accepted : (v : Verdict Shape) {s : Shape} → Accepted s ≡ shapeAnswer v → v ≡ accepted s
+was-accepted (accepted x) e = cc
+was-accepted (refused q) e = accepted-refused e
+
+was-refused : (v : Verdict Shape) {q : Refusal} → Refused q ≡ shapeAnswer v → v ≡ refused q
+was-refused (accepted x) e = accepted-refused (sym e)
+was-refused (refused p) e = cc
+
+pub makes-accepted : {v : Verdict Shape} {r : ShapeAnswer} {s : Shape} → Makes v r → r ≡ Accepted s → v ≡ accepted s
+makes-accepted {v} k e = was-accepted v (sym e ∙ k .answer)
+
+pub makes-refused : {v : Verdict Shape} {r : ShapeAnswer} {q : Refusal} → Makes v r → r ≡ Refused q → v ≡ refused q
+makes-refused {v} k e = was-refused v (sym e ∙ k .answer)
+
+-- the two ways of `new`
+module _ (n : ℕ) (l : List ℕ) (m : ℕ) (eight : length l ≡ 8) where
+  pub new-sound : isSound (shapeFrom n l m) ≡ true → newShape n l m ≡ accepted (shapeFrom n l m)
+  new-sound e = row-pass ShapeRange (accepted (shapeFrom n l m)) (sym (sound-from n l m eight) ∙ e)
+
+  pub new-unsound : isSound (shapeFrom n l m) ≡ false → newShape n l m ≡ refused ShapeRange
+  new-unsound e = row-stop ShapeRange (accepted (shapeFrom n l m)) (sym (sound-from n l m eight) ∙ e)
 
 -- and those of `from_bytes`
-pub bytes-other : (b : List ℕ) → (length b ≡ 10 → ⊥) → shapeOfBytes b ≡ Refused ShapeRange
-bytes-other b n = ap (λ (q : Bool). cond q (newShape (at b 0) (take 8 (drop 1 b)) (at b 9)) (Refused ShapeRange)) (ne-eqb (length b) 10 n)
+pub bytes-other : (b : List ℕ) → (length b ≡ 10 → ⊥) → shapeOfBytes b ≡ refused ShapeRange
+bytes-other b n = ap (λ (q : Bool). cond q (newShape (at b 0) (take 8 (drop 1 b)) (at b 9)) (refused ShapeRange)) (ne-eqb (length b) 10 n)
 
 pub bytes-ten : (b : List ℕ) → length b ≡ 10 → shapeOfBytes b ≡ newShape (at b 0) (at b 1 ∷ at b 2 ∷ at b 3 ∷ at b 4 ∷ at b 5 ∷ at b 6 ∷ at b 7 ∷ at b 8 ∷ []) (at b 9)
 bytes-ten b e =
-    ap (λ (q : Bool). cond q (newShape (at b 0) (take 8 (drop 1 b)) (at b 9)) (Refused ShapeRange)) (eq-eqb (length b) 10 e)
+    ap (λ (q : Bool). cond q (newShape (at b 0) (take 8 (drop 1 b)) (at b 9)) (refused ShapeRange)) (eq-eqb (length b) 10 e)
     ∙ ap (λ (l : List ℕ). newShape (at b 0) l (at b 9)) (sym (middle b e))

@@ -1,11 +1,11 @@
 // Shapes: how many conditions, their cardinalities, how many grades.
 ghost use mathlib.Core.Path.{_≡_};
 ghost use Prim.Native.Nat.{max};
-ghost use lib.ListN.{length};
 ghost use Rattle.rules.specs.Bytes.{at, all};
-ghost use Rattle.rules.specs.Cell.{cells, card, value};
+ghost use Rattle.rules.specs.Cell.{cells, card};
 ghost use Rattle.rules.specs.Shape.{placeSound};
-ghost use Rattle.shape.specs.Shapes.{cardsOf, placesOf, isSound, newShape, shapeOfBytes, shapeBytes};
+ghost use Rattle.shape.specs.Shapes.{cardsOf, placesOf, isSound, newShape, shapeOfBytes, shapeBytes, Makes};
+use rules::PLACES;
 use rules::Refusal;
 
 // n conditions, the cardinality of each by its number, 0 beyond n, and m grades. A shape that is
@@ -39,8 +39,8 @@ impl Shape {
 
     pub const BYTES: usize = 10;
 
-    pub fn new(n: u8, cards: [u8; 8], m: u8) -> ShapeAnswer
-        ensures { λ r. ⌜ r ≡ newShape n cards m ⌝ }
+    pub fn new(n: u8, cards: [u8; PLACES], m: u8) -> ShapeAnswer
+        ensures { λ r. ⌜ Makes (newShape n cards m) r ⌝ }
     {
         let shape = Shape {
             n,
@@ -63,7 +63,7 @@ impl Shape {
 
     // From the bytes that C lends: n, the eight cardinalities, m.
     pub fn from_bytes(bytes: &[u8]) -> ShapeAnswer
-        ensures { λ r. ⌜ r ≡ shapeOfBytes (now (bytes .entry)) ⌝ }
+        ensures { λ r. ⌜ Makes (shapeOfBytes (now (bytes .entry))) r ⌝ }
     {
         if bytes.len() != Shape::BYTES {
             return ShapeAnswer::Refused(Refusal::ShapeRange);
@@ -99,7 +99,7 @@ impl Shape {
     }
 
     // The cardinalities as bytes, 0 beyond n.
-    pub fn cards(self) -> [u8; 8]
+    pub fn cards(self) -> [u8; PLACES]
         ensures { λ r. ⌜ r ≡ cardsOf self ⌝ }
     {
         [
@@ -115,7 +115,7 @@ impl Shape {
     }
 
     // The places: the cardinalities, 1 where there is no condition.
-    pub fn places(self) -> [u8; 8]
+    pub fn places(self) -> [u8; PLACES]
         ensures { λ r. ⌜ r ≡ placesOf self ⌝ }
     {
         [
@@ -159,21 +159,11 @@ impl Shape {
     pub fn cardinality(self, i: usize) -> usize
         ensures { λ r. ⌜ r ≡ card (placesOf self) i ⌝ }
     {
-        if 8 <= i {
+        if PLACES <= i {
             return 1;
         }
         let ks = self.places();
         ks[i] as usize
-    }
-
-    // The value of condition i at a cell, 0 where there is none.
-    pub fn value(self, cell: usize, i: usize) -> usize
-        ensures { λ r. ⌜ r ≡ value (placesOf self) cell i ⌝ }
-    {
-        if 8 <= i {
-            return 0;
-        }
-        places::value(self.places(), cell, i)
     }
 }
 
@@ -184,10 +174,10 @@ fn at_least_one(card: u8) -> u8
 }
 
 // Whether each of the first n is a cardinality, and the others are 0.
-fn cards_sound(n: u8, cards: [u8; 8]) -> bool
+fn cards_sound(n: u8, cards: [u8; PLACES]) -> bool
     ensures { λ r. ⌜ r ≡ all 8 (λ i. placeSound n i (at cards i)) ⌝ }
 {
-    for i in 0..8 {
+    for i in 0..PLACES {
         if !place_sound(n, i, cards[i]) {
             return false;
         }

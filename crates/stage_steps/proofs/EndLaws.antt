@@ -16,7 +16,7 @@ use Rattle.laws.proofs.LowestLaws.{lowest-present, one-cells}
 use Rattle.laws.proofs.TableLaws.{length-tabulateFrom, tabulate-same, tabulate-self}
 use Rattle.tables.specs.Part.{part, Laid, Apart}
 use Rattle.tables.proofs.PartLaws.{part-at, part-length, laid-part}
-use Rattle.stage_tables.specs.Blocks.{stageOf}
+use Rattle.stage_blocks.specs.Blocks.{stageOf}
 use Rattle.stage_steps.specs.Ends.{LeafRoom, LeafPut, SpreadRoom, SpreadLaid}
 use Rattle.stage_steps.specs.Putting.{Put}
 use Rattle.stage_steps.proofs.PutLaws.{put-one, put-as}

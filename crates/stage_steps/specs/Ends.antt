@@ -9,7 +9,7 @@ use Rattle.rules.specs.Network.{gate}
 use Rattle.rules.specs.Tree.{Tree, records}
 use Rattle.rules.specs.Stage.{Stage, leftTree}
 use Rattle.tables.specs.Part.{part, Shaped}
-use Rattle.stage_tables.specs.Blocks.{stageOf, JoinedRoom, JoinedLaid}
+use Rattle.stage_blocks.specs.Blocks.{stageOf, JoinedRoom, JoinedLaid}
 use Rattle.stage_steps.specs.Putting.{Put}
 
 -- none left or one: the lower grades are at the front of the work buffer

@@ -5,7 +5,7 @@ use network_records::put_gate;
 use network_records::put_literal;
 use places::sets;
 use rules::Gate;
-use stage_tables::blocks;
+use rules::PLACES;
 use tables::fill;
 use tables::moves;
 ghost use Prim.Native.Nat.{_*_, _+_};
@@ -14,7 +14,7 @@ ghost use mathlib.Core.Bool.{true};
 ghost use Rattle.stage_steps.specs.Ends.{LeafRoom, LeafPut, CloseRoom, Closed, SpreadRoom, SpreadLaid};
 
 // Step 2: a constant or a literal, of the lower grades at the front of the buffer.
-pub fn leaf(w: &[u8], network: &mut [u8], ks: [u8; 8], r: usize)
+pub fn leaf(w: &[u8], network: &mut [u8], ks: [u8; PLACES], r: usize)
     requires { ⌜ LeafRoom (now w) (now network) ks r ⌝ }
     ensures { λ _. ⌜ LeafPut ks (now (w .entry)) (now (network .entry)) r (now (network .exit)) ⌝ }
 {
@@ -32,8 +32,8 @@ pub fn close_join(
     w: &mut [u8],
     network: &mut [u8],
     gate: Gate,
-    ks: [u8; 8],
-    b: [u8; 8],
+    ks: [u8; PLACES],
+    b: [u8; PLACES],
     c: usize,
     a: usize,
     e: usize,
@@ -41,15 +41,15 @@ pub fn close_join(
     requires { ⌜ CloseRoom (now w) (now network) ks b c a e ⌝ }
     ensures { λ n. ⌜ Closed gate ks b c a e (now (w .entry)) (now (network .entry)) n (now (w .exit)) (now (network .exit)) ⌝ }
 {
-    blocks::joined(w, gate, ks, b, c);
+    stage_blocks::joined(w, gate, ks, b, c);
     put_gate(network, e, gate, a - 1, e - 1);
     e + 1
 }
 
-fn same(a: [u8; 8], b: [u8; 8]) -> bool
+fn same(a: [u8; PLACES], b: [u8; PLACES]) -> bool
     ensures { λ r. ⌜ (r ≡ true → a ≡ b) ⌝ }
 {
-    for i in 0..8 {
+    for i in 0..PLACES {
         if a[i] != b[i] {
             return false;
         }
@@ -59,7 +59,7 @@ fn same(a: [u8; 8], b: [u8; 8]) -> bool
 
 // The function of the conditions left, over all conditions of the stage. Nothing moves where none was
 // dropped.
-pub fn spread(w: &mut [u8], b: [u8; 8], ks: [u8; 8])
+pub fn spread(w: &mut [u8], b: [u8; PLACES], ks: [u8; PLACES])
     requires { ⌜ SpreadRoom (now w) ks b ⌝ }
     ensures { λ _. ⌜ SpreadLaid ks b (now (w .entry)) (now (w .exit)) ⌝ }
 {

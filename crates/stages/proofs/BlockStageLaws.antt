@@ -22,11 +22,11 @@ use Rattle.laws.proofs.StageLaws.{Ready, admitted, network-ok, first-ready, sec
 use Rattle.laws.proofs.FunctionLaws.{first-moved, joined}
 use Rattle.tables.specs.Part.{part}
 use Rattle.tables.proofs.PartLaws.{part-at}
-use Rattle.join.specs.Parts.{Below}
+use Rattle.join_tables.specs.Parts.{Below}
 use Rattle.grouping.specs.Joining.{stageAt}
-use Rattle.stage_tables.specs.Working.{ForSecond}
-use Rattle.stage_tables.specs.Blocks.{stageOf, FirstRoom, FirstLaid, SecondRoom, SecondLaid}
-use Rattle.stage_tables.proofs.DropLaws.{fewer-shaped, as-shaped}
+use Rattle.stage_drops.specs.Working.{ForSecond}
+use Rattle.stage_blocks.specs.Blocks.{stageOf, FirstRoom, FirstLaid, SecondRoom, SecondLaid}
+use Rattle.stage_drops.proofs.DropLaws.{fewer-shaped, as-shaped}
 use Rattle.stage_steps.specs.Putting.{Put}
 use Rattle.stage_steps.specs.Ends.{CloseRoom, Closed}
 use Rattle.stage_steps.proofs.PutLaws.{put-then, put-as}

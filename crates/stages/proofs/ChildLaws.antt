@@ -14,9 +14,9 @@ use Rattle.laws.proofs.CellLaws.{card-in, card-out, without-lt, without-half}
 use Rattle.laws.proofs.StageLaws.{Ready}
 use Rattle.tables.specs.Part.{part, Shaped}
 use Rattle.grouping.specs.Joining.{stageAt}
-use Rattle.stage_tables.specs.Working.{Proper}
-use Rattle.stage_tables.specs.Blocks.{stageOf}
-use Rattle.stage_tables.proofs.DropLaws.{fewer-shaped}
+use Rattle.stage_drops.specs.Working.{Proper}
+use Rattle.stage_blocks.specs.Blocks.{stageOf}
+use Rattle.stage_drops.proofs.DropLaws.{fewer-shaped}
 use Rattle.stages.specs.Staging.{Fits, Starts, Written, Left}
 use Rattle.stages.proofs.LentLaws.{rest, rest-length, rest-stage, Back, back, back-behind}
 

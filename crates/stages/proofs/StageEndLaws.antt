@@ -16,18 +16,18 @@ use Rattle.laws.proofs.TableLaws.{tabulate-self}
 use Rattle.laws.proofs.CellLaws.{Sub, not-above}
 use Rattle.laws.proofs.TreeLaws.{size-pos}
 use Rattle.laws.proofs.StageLaws.{Ready, Shrunk, left-shrunk, left-ready}
-use Rattle.laws.proofs.FuelLaws.{network-left, chosen-tree}
+use Rattle.laws.proofs.FuelLaws.{network-left, built}
 use Rattle.laws.proofs.FunctionLaws.{spread, leaf}
 use Rattle.tables.specs.Part.{part, Shaped}
 use Rattle.tables.proofs.PartLaws.{part-length}
 use Rattle.grouping.specs.Joining.{stageAt}
 use Rattle.grouping.specs.declared.Sets.{Sets}
-use Rattle.stage_tables.specs.declared.choice.Choice.{Choice}
-use Rattle.stage_tables.specs.declared.choice.Choice.the-variants.{Split, Join}
-use Rattle.stage_tables.specs.Working.{Room, Turned, Proper}
-use Rattle.stage_tables.specs.Choosing.{choiceOf, Prepared, Chosen}
-use Rattle.stage_tables.specs.Blocks.{stageOf}
-use Rattle.stage_tables.proofs.DropLaws.{as-shaped}
+use Rattle.stage_choice.specs.declared.Choice.{Choice}
+use Rattle.stage_choice.specs.declared.Choice.the-variants.{Split, Join}
+use Rattle.stage_drops.specs.Working.{Room, Turned, Proper}
+use Rattle.stage_choice.specs.Choosing.{choiceOf, Prepared, Chosen}
+use Rattle.stage_blocks.specs.Blocks.{stageOf}
+use Rattle.stage_drops.proofs.DropLaws.{as-shaped}
 use Rattle.stage_steps.specs.Putting.{Put}
 use Rattle.stage_steps.specs.Ends.{LeafRoom, LeafPut, SpreadRoom, SpreadLaid}
 use Rattle.stage_steps.proofs.PutLaws.{put-as}
@@ -152,7 +152,7 @@ module _ {m : ℕ} {ks w net : List ℕ} {r : ℕ} (s : Starts m ks w net r) whe
         tree-is : treeOf m x ≡ choiceTree m (treeOf m) (choiceOf ch) (stageAt l w₁ 0 c)
         tree-is =
             let e = ap width places in
-            chosen-tree m x (ready .pos) (omega arith) ∙ ap (λ (z : Stage). choiceTree m (treeOf m) (chosen m z) z) (sym is-left)
+            built m x (ready .pos) .more-left (omega arith) .1 ∙ ap (λ (z : Stage). choiceTree m (treeOf m) (chosen m z) z) (sym is-left)
             ∙ ap (λ (q : rules.Choice). choiceTree m (treeOf m) q (stageAt l w₁ 0 c)) (sym (o .is))
 
         left-here : (z : Stage) → stageAt l w₁ 0 c ≡ z → Left m z c w₂

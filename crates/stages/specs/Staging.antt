@@ -10,8 +10,8 @@ use Rattle.rules.specs.Tree.{Tree, size, records}
 use Rattle.rules.specs.Stage.{Stage, split, joining, chosen, computed, joinTree, choiceTree, treeOf}
 use Rattle.tables.specs.Part.{part, Shaped}
 use Rattle.grouping.specs.Joining.{stageAt}
-use Rattle.stage_tables.specs.Working.{Room, Proper, ForBoth}
-use Rattle.stage_tables.specs.Blocks.{stageOf}
+use Rattle.stage_drops.specs.Working.{Room, Proper, ForBoth}
+use Rattle.stage_blocks.specs.Blocks.{stageOf}
 use Rattle.stage_steps.specs.Putting.{Put}
 
 -- a tree's records stand from r up to e, and its function, as a table over ks, at the front of the work buffer

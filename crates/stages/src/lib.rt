@@ -2,12 +2,10 @@
 use grouping::Sets;
 use places::sets;
 use rules::Gate;
+use rules::PLACES;
+use stage_choice::Choice;
 use stage_steps::ends;
 use stage_steps::values;
-use stage_tables::blocks;
-use stage_tables::choice;
-use stage_tables::choice::Choice;
-use stage_tables::drops;
 use tables::fill;
 use tables::moves;
 ghost use Rattle.rules.specs.Stage.{split, choiceTree, treeOf};
@@ -17,7 +15,7 @@ ghost use Rattle.stages.specs.Staging.{Starts, Written, Splits, CanJoin,
 
 // Step 6: a stage for each value of the lowest condition, with a literal before it and gates behind it.
 // Their functions are collected in part 2.
-fn split(w: &mut [u8], network: &mut [u8], ks: [u8; 8], m: u8, c: usize, r: usize) -> usize
+fn split(w: &mut [u8], network: &mut [u8], ks: [u8; PLACES], m: u8, c: usize, r: usize) -> usize
     requires { ⌜ Splits m ks c (now w) (now network) r ⌝ }
     ensures { λ e. ⌜ Written ks (choiceTree m (treeOf m) split (stageAt ks (now (w .entry)) 0 c)) (now (w .entry)) (now (network .entry)) r e (now (w .exit)) (now (network .exit)) ⌝ }
 {
@@ -42,7 +40,7 @@ fn split(w: &mut [u8], network: &mut [u8], ks: [u8; 8], m: u8, c: usize, r: usiz
 fn join(
     w: &mut [u8],
     network: &mut [u8],
-    ks: [u8; 8],
+    ks: [u8; PLACES],
     m: u8,
     c: usize,
     gate: Gate,
@@ -53,27 +51,27 @@ fn join(
     ensures { λ e. ⌜ Joined gate m ks (of .s) (of .t) c (now (w .entry)) (now (network .entry)) r e (now (w .exit)) (now (network .exit)) ⌝ }
 {
     let rest = 8 * c;
-    let a = blocks::first_table(w, gate, m, ks, of.t, c);
+    let a = stage_blocks::first_table(w, gate, m, ks, of.t, c);
     let first = stage(&mut w[rest..], network, a, m, r);
-    let b = blocks::second_table(w, gate, m, ks, a, of.s, c);
+    let b = stage_blocks::second_table(w, gate, m, ks, a, of.s, c);
     let second = stage(&mut w[rest..], network, b, m, first);
     ends::close_join(w, network, gate, ks, b, c, first, second)
 }
 
 // The network of the stage over ks whose limits are at the front of the work buffer, as records from r
 // on: the next record. Its function is left at the front.
-pub fn stage(w: &mut [u8], network: &mut [u8], ks: [u8; 8], m: u8, r: usize) -> usize
+pub fn stage(w: &mut [u8], network: &mut [u8], ks: [u8; PLACES], m: u8, r: usize) -> usize
     requires { ⌜ Starts m ks (now w) (now network) r ⌝ }
     ensures { λ e. ⌜ Written ks (treeOf m (stageAt ks (now (w .entry)) 0 (cells ks))) (now (w .entry)) (now (network .entry)) r e (now (w .exit)) (now (network .exit)) ⌝ }
 {
     let c = places::cell_count(ks);
-    let left = drops::drop_all(w, ks, c);
+    let left = stage_drops::drop_all(w, ks, c);
     if sets::width(left) < 2 {
         ends::leaf(w, network, left, r);
         ends::spread(w, left, ks);
         return r + 1;
     }
-    let e = match choice::choose(w, left, m, c) {
+    let e = match stage_choice::choose(w, left, m, c) {
         Choice::Split => split(w, network, left, m, c, r),
         Choice::Join(gate, of) => join(w, network, left, m, c, gate, of, r),
     };

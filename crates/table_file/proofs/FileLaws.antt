@@ -1,42 +1,38 @@
 -- What an accepted file says: every cell record names a cell of the final shape, and there are grades.
 use Prim.Native.Nat.{ℕ, zero, suc, _+_, _/_, _%_, _≤_, _<_}
 use mathlib.Core.Path.{_≡_, refl, sym, _∙_, subst}
-use mathlib.Core.Bool.{Bool, true, false, not, _&&_}
+use mathlib.Core.Bool.{Bool, not, _&&_}
 use mathlib.Core.List.{List}
 use mathlib.Core.Logic.{⊎-elim}
 use native.Mathlib.Nat.{eq-or-lt-of-le}
 use native.Mathlib.Omega.{arith}
 use lib.Dec.{T, T-not, leb, ltb, eqb, leb→le}
 use lib.ListN.{length}
-use Rattle.rules.specs.declared.Refusal.{Refusal}
 use Rattle.rules.specs.declared.Refusal.the-variants.{FileLength, RecordOrder}
 use Rattle.rules.specs.Bytes.{at, recordAt}
 use Rattle.rules.specs.Cell.{card}
 use Rattle.rules.specs.Shape.{places}
 use Rattle.rules.specs.Verdict.{Verdict, accepted, refused, unless, andThen}
 use Rattle.rules.specs.TableFile.{Seen, start, tableRecord, tableRecords, maxFileLength, judgeFile}
-use Rattle.laws.proofs.TestLaws.{and-r}
-use Rattle.table_file.specs.Reading.{Kept, RecordBelow, ListedBelow}
-use Rattle.table_file.proofs.SeenLaws.{Step, accepted-step, kept-start}
+use Rattle.laws.proofs.TestLaws.{and-r, passes}
+use Rattle.laws.proofs.VerdictLaws.{refused-accepted, accepted-same, row-passed}
+use Rattle.table_records.specs.Records.{InRange}
+use Rattle.table_file.specs.Reading.{RecordBelow, ListedBelow}
+use Rattle.table_records.proofs.SeenLaws.{Step, accepted-step, kept-start}
 
-no-refusal : {q : Refusal} {s : Seen} → _≡_ {A = Verdict Seen} (refused q) (accepted s) → ⊥
-no-refusal e = let z : _≡_ {A = ℕ} 0 1 = cc in omega arith
-
--- a row that was passed
-row-passed : (b : Bool) (q : Refusal) (v : Verdict Seen) (t : Seen) → unless b q v ≡ accepted t → T b × (v ≡ accepted t)
-row-passed true q v t e = (tt, e)
-row-passed false q v t e = absurd (no-refusal e)
-
-accepted-same : {s t : Seen} → _≡_ {A = Verdict Seen} (accepted s) (accepted t) → s ≡ t
-accepted-same e = cc
+-- a cell record's limits are in order and below m
+abbrev pub LimitsIn : List ℕ → ℕ → Type 0
+LimitsIn r m = at r 0 ≡ 3 → (at r 1 ≤ at r 2) × (at r 2 < m)
 
 -- the records from k on, n of them
 module _ (file : List ℕ) where
   record Rest (k n : ℕ) (s t : Seen) : Type 0 where
-    pub kept : Kept t
+    pub kept : InRange t
     pub grades : t .m ≡ 0 → ⊥
     pub settled : (s .m ≡ 0 → ⊥) → t .cards ≡ s .cards
+    pub same-grades : (s .m ≡ 0 → ⊥) → t .m ≡ s .m
     pub listed : (j : ℕ) → k ≤ j → j < k + n → RecordBelow (recordAt file j) (places (t .cards))
+    pub limits : (j : ℕ) → k ≤ j → j < k + n → LimitsIn (recordAt file j) (t .m)
 
   rest-more : (k n : ℕ) (s u t : Seen) → Step s (recordAt file k) u → Rest (suc k) n u t → Rest k (suc n) s t
   rest-more k n s u t a r =
@@ -44,6 +40,8 @@ module _ (file : List ℕ) where
         kept = r .kept;
         grades = r .grades;
         settled = λ z. r .settled (a .settled z .1) ∙ a .settled z .0;
+        same-grades = λ z. r .same-grades (a .settled z .1) ∙ a .same-grades z;
+        limits = λ j h l. ⊎-elim (λ e. subst (λ (i : ℕ). LimitsIn (recordAt file i) (t .m)) e in-order) (λ lt. r .limits j lt (omega arith)) (eq-or-lt-of-le h);
         listed = λ j h l. ⊎-elim (λ e. subst (λ (i : ℕ). RecordBelow (recordAt file i) (places (t .cards))) e here) (λ lt. r .listed j lt (omega arith)) (eq-or-lt-of-le h);
       }
     where
@@ -53,26 +51,33 @@ module _ (file : List ℕ) where
           let s′ = a .settled (c .0) in
           subst (λ (cards : List ℕ). at (recordAt file k) (8 + i) < card (places cards) i) (sym (r .settled (s′ .1) ∙ s′ .0)) (c .1 i h)
 
-  rest-none : (k : ℕ) (s t : Seen) → Kept s → T (not (eqb (s .m) 0)) → s ≡ t → Rest k 0 s t
+      in-order : LimitsIn (recordAt file k) (t .m)
+      in-order e =
+          let z = a .cell e .0 in
+          (a .limits e .0, subst (λ (m : ℕ). at (recordAt file k) 2 < m) (sym (r .same-grades (a .settled z .1) ∙ a .same-grades z)) (a .limits e .1))
+
+  rest-none : (k : ℕ) (s t : Seen) → InRange s → T (not (eqb (s .m) 0)) → s ≡ t → Rest k 0 s t
   rest-none k s t kept z e =
       subst (Rest k 0 s) e
       (record {
         kept = kept;
         grades = λ q. T-not (eqb (s .m) 0) z (subst (λ (n : ℕ). T (eqb n 0)) (sym q) tt);
         settled = λ n. refl;
+        same-grades = λ n. refl;
         listed = λ j h l. absurd (omega arith);
+        limits = λ j h l. absurd (omega arith);
       })
 
-  rest-step : (k n : ℕ) (s t : Seen) → Kept s → ((u : Seen) → Kept u → tableRecords file (suc k) n u ≡ accepted t → Rest (suc k) n u t)
+  rest-step : (k n : ℕ) (s t : Seen) → InRange s → ((u : Seen) → InRange u → tableRecords file (suc k) n u ≡ accepted t → Rest (suc k) n u t)
       → (v : Verdict Seen) → tableRecord s (recordAt file k) ≡ v → andThen v (tableRecords file (suc k) n) ≡ accepted t → Rest k (suc n) s t
   rest-step k n s t kept later (accepted u) q f =
       let a = accepted-step s (recordAt file k) kept u q in rest-more k n s u t a (later u (a .kept) f)
-  rest-step k n s t kept later (refused q) p f = absurd (no-refusal f)
+  rest-step k n s t kept later (refused q) p f = refused-accepted f
 
-  rest : (k n : ℕ) (s t : Seen) → Kept s → tableRecords file k n s ≡ accepted t → Rest k n s t
+  rest : (k n : ℕ) (s t : Seen) → InRange s → tableRecords file k n s ≡ accepted t → Rest k n s t
   rest k zero s t kept e =
-      let p = row-passed (not (eqb (s .m) 0)) RecordOrder (accepted s) t e in
-      rest-none k s t kept (p .0) (accepted-same (p .1))
+      let p = row-passed (not (eqb (s .m) 0)) RecordOrder (accepted s) e in
+      rest-none k s t kept (passes (p .0)) (accepted-same (p .1))
   rest k (suc n) s t kept e = rest-step k n s t kept (λ u ku f. rest (suc k) n u t ku f) (tableRecord s (recordAt file k)) refl e
 
 -- the verdict on a file, test by test
@@ -83,18 +88,20 @@ file-by file a b c p q r = cc
 -- an accepted file
 pub record Accepted (file : List ℕ) (s : Seen) : Type 0 where
   pub short : length file ≤ maxFileLength
-  pub kept : Kept s
+  pub kept : InRange s
   pub grades : s .m ≡ 0 → ⊥
   pub listed : ListedBelow file (places (s .cards))
+  pub limits : (k : ℕ) → k < length file / 16 → LimitsIn (recordAt file k) (s .m)
 
 pub accepted-file : (file : List ℕ) (s : Seen) → judgeFile file ≡ accepted s → Accepted file s
 accepted-file file s e =
     let n = length file in
-    let p = row-passed (ltb 0 n && (eqb (n % 16) 0 && leb n maxFileLength)) FileLength _ s e in
+    let p = row-passed (ltb 0 n && (eqb (n % 16) 0 && leb n maxFileLength)) FileLength _ e in
     let r = rest file 0 (n / 16) start s kept-start (p .1) in
     record {
-      short = leb→le n maxFileLength (and-r (eqb (n % 16) 0) (leb n maxFileLength) (and-r (ltb 0 n) (eqb (n % 16) 0 && leb n maxFileLength) (p .0)));
+      short = leb→le n maxFileLength (and-r (eqb (n % 16) 0) (leb n maxFileLength) (and-r (ltb 0 n) (eqb (n % 16) 0 && leb n maxFileLength) (passes (p .0))));
       kept = r .kept;
       grades = r .grades;
       listed = λ k h. r .listed k (omega arith) (omega arith);
+      limits = λ k h. r .limits k (omega arith) (omega arith);
     }

@@ -1,6 +1,5 @@
 -- Laws of reading a table file.
-pub mod RecordLaws
-pub mod SeenLaws
 pub mod ListedLaws
 pub mod FileLaws
 pub mod ReadLaws
+pub mod FileTableLaws

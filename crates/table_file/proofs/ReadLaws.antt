@@ -1,25 +1,45 @@
 -- The promise of the reading call, case by case.
 use Prim.Native.Nat.{ℕ}
-use mathlib.Core.Path.{_≡_, sym, _∙_, ap}
+use mathlib.Core.Path.{_≡_, refl, sym, _∙_, ap}
 use mathlib.Core.Bool.{Bool, true, false, _&&_}
 use mathlib.Core.List.{List, _++_}
+use native.Mathlib.Omega.{arith}
 use lib.Dec.{leb}
 use lib.ListN.{length, drop}
 use Rattle.rules.specs.declared.Refusal.{Refusal}
 use Rattle.rules.specs.declared.Refusal.the-variants.{ShortBuffer}
 use Rattle.rules.specs.Cell.{cells}
 use Rattle.rules.specs.Shape.{places}
-use Rattle.rules.specs.Verdict.{Verdict, accepted, refused, unless, andThen}
+use Rattle.rules.specs.Verdict.{Verdict, accepted, refused, unless, andThen, answerOf}
 use Rattle.rules.specs.TableFile.{Seen, judgeFile, judgeReading, fileLimits}
-use Rattle.shape.specs.Shapes.{shapeFrom}
+use Rattle.shape.specs.declared.Shape.{Shape}
+use Rattle.shape.specs.Shapes.{shapeFrom, shapeBytes}
 use Rattle.table_file.specs.declared.TableAnswer.the-variants.{Table, Refused}
-use Rattle.table_file.specs.Reading.{readAnswer, lowerAfter, upperAfter, Read}
+use Rattle.table_file.specs.Reading.{readAnswer, lowerAfter, upperAfter, Read, tableMeans}
+
+-- two answers
+table-refused : {P : Type 0} {x : Shape} {q : Refusal} → Table x ≡ Refused q → P
+table-refused e = let z : _≡_ {A = ℕ} 0 1 = cc in absurd (omega arith)
+
+-- the verdict behind an answer
+pub was-table : (v : Verdict Seen) {x : Shape} → Table x ≡ readAnswer v → (s : Seen) × (v ≡ accepted s) × (x ≡ shapeFrom (s .n) (s .cards) (s .m))
+was-table (accepted s) e = (s, refl, cc)
+was-table (refused q) e = table-refused e
+
+pub was-refused : (v : Verdict Seen) {q : Refusal} → Refused q ≡ readAnswer v → v ≡ refused q
+was-refused (accepted s) e = table-refused (sym e)
+was-refused (refused p) e = cc
+
+table-means : (v : Verdict Seen) → tableMeans (readAnswer v) ≡ answerOf (λ s. shapeBytes (shapeFrom (s .n) (s .cards) (s .m))) v
+table-means (accepted s) = refl
+table-means (refused q) = refl
 
 module _ (file lower upper : List ℕ) where
   by-verdict : (v : Verdict Seen) → judgeReading file (length lower) (length upper) ≡ v → Read file lower upper (readAnswer v) (lowerAfter file v lower) (upperAfter file v upper)
   by-verdict v e =
       record {
         answer = ap readAnswer (sym e);
+        means = table-means v ∙ ap (answerOf (λ (s : Seen). shapeBytes (shapeFrom (s .n) (s .cards) (s .m)))) (sym e);
         lower-after = ap (λ (w : Verdict Seen). lowerAfter file w lower) (sym e);
         upper-after = ap (λ (w : Verdict Seen). upperAfter file w upper) (sym e);
       }

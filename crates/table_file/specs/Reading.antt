@@ -1,34 +1,17 @@
 -- The answers of the code as the rules see them, and the promise of the reading call.
-use Prim.Native.Nat.{ℕ, _+_, _/_, _≤_, _<_}
+use Prim.Native.Nat.{ℕ, _+_, _/_, _<_}
 use mathlib.Core.Path.{_≡_}
 use mathlib.Core.List.{List, _++_}
 use lib.ListN.{length, drop}
 use Rattle.rules.specs.Bytes.{at, recordAt}
 use Rattle.rules.specs.Cell.{cells, card}
 use Rattle.rules.specs.Shape.{places}
-use Rattle.rules.specs.Verdict.{Verdict, accepted, refused}
+use Rattle.rules.specs.Verdict.{Verdict, accepted, refused, Answer, granted, denied, answerOf}
 use Rattle.rules.specs.TableFile as TableFile
 use Rattle.rules.specs.TableFile.{judgeReading, fileLimits}
-use Rattle.shape.specs.Shapes.{cardsOf, shapeFrom}
-use Rattle.table_file.specs.declared.records.Seen.{Seen}
-use Rattle.table_file.specs.declared.records.Judged.{Judged}
-use Rattle.table_file.specs.declared.records.Judged.the-variants as judged
+use Rattle.shape.specs.Shapes.{shapeFrom, shapeBytes}
 use Rattle.table_file.specs.declared.TableAnswer.{TableAnswer}
 use Rattle.table_file.specs.declared.TableAnswer.the-variants.{Table, Refused}
-
-abbrev pub seenOf : Seen → TableFile.Seen
-seenOf s = record { n = s .shape .n; cards = cardsOf (s .shape); m = s .shape .m; next = s .next }
-
-abbrev pub verdictOf : Judged → Verdict TableFile.Seen
-verdictOf (judged.Accepted s) = accepted (seenOf s)
-verdictOf (judged.Refused q) = refused q
-
--- what holds of the records so far: few enough conditions and cells, and nothing at the places beyond
-pub record Kept (s : TableFile.Seen) : Type 0 where
-  pub eight : length (s .cards) ≡ 8
-  pub conditions : s .n ≤ 8
-  pub few : cells (places (s .cards)) ≤ 1024
-  pub beyond : (i : ℕ) → s .n ≤ i → at (s .cards) i ≡ 0
 
 -- a record, if it is a cell record, names a cell of the places ks; so for every record of a file
 abbrev pub RecordBelow : List ℕ → List ℕ → Type 0
@@ -42,6 +25,11 @@ abbrev pub readAnswer : Verdict TableFile.Seen → TableAnswer
 readAnswer (accepted s) = Table (shapeFrom (s .n) (s .cards) (s .m))
 readAnswer (refused q) = Refused q
 
+-- what it says in 01's numbers: a table by its shape's ten bytes; its limits are in the two buffers
+abbrev pub tableMeans : TableAnswer → Answer
+tableMeans (Table shape) = granted (shapeBytes shape)
+tableMeans (Refused q) = denied q
+
 -- the two buffers after it: the table's limits and what lay behind them, or all as it was
 abbrev pub lowerAfter : List ℕ → Verdict TableFile.Seen → List ℕ → List ℕ
 lowerAfter file (accepted s) lower = fileLimits file s .lower ++ drop (cells (places (s .cards))) lower
@@ -54,5 +42,6 @@ upperAfter file (refused q) upper = upper
 -- the promise: the answer and every byte of both buffers, for every file and all buffers
 pub record Read (file lower upper : List ℕ) (r : TableAnswer) (lower′ upper′ : List ℕ) : Type 0 where
   pub answer : r ≡ readAnswer (judgeReading file (length lower) (length upper))
+  pub means : tableMeans r ≡ answerOf (λ s. shapeBytes (shapeFrom (s .n) (s .cards) (s .m))) (judgeReading file (length lower) (length upper))
   pub lower-after : lower′ ≡ lowerAfter file (judgeReading file (length lower) (length upper)) lower
   pub upper-after : upper′ ≡ upperAfter file (judgeReading file (length lower) (length upper)) upper

@@ -1,14 +1,13 @@
 // Reading a table file: one pass judges every record, and only then a second pass writes the limits.
-ghost use mathlib.Core.Path.{_≡_};
 ghost use Rattle.rules.specs.TableFile.{judgeFile};
-ghost use Rattle.table_file.specs.Reading.{verdictOf, Read};
+ghost use Rattle.table_records.specs.Records.{Judges};
+ghost use Rattle.table_file.specs.Reading.{Read};
+use rules::RECORD;
 use rules::Refusal;
 use shape::Shape;
+use table_records::Judged;
 
-pub mod records;
-pub mod writing;
-
-use crate::records::Judged;
+mod writing;
 
 pub enum TableAnswer {
     Table(Shape),
@@ -20,18 +19,18 @@ const MAX_LENGTH: usize = 16528;
 
 // The verdict on a file, whatever buffers there are for its limits.
 pub fn judge(file: &[u8]) -> Judged
-    ensures { λ r. ⌜ verdictOf r ≡ judgeFile (now (file .entry)) ⌝ }
+    ensures { λ r. ⌜ Judges (judgeFile (now (file .entry))) r ⌝ }
 {
     if file.len() == 0 {
         return Judged::Refused(Refusal::FileLength);
     }
-    if file.len() % 16 != 0 {
+    if file.len() % RECORD != 0 {
         return Judged::Refused(Refusal::FileLength);
     }
     if MAX_LENGTH < file.len() {
         return Judged::Refused(Refusal::FileLength);
     }
-    records::records(file)
+    table_records::records(file)
 }
 
 // The shape of the table that a file holds, its limits being written to the two buffers, or why

@@ -1,7 +1,10 @@
 // Writing the limits of a file that was accepted.
+use rules::PLACES;
+use rules::RECORD;
+use rules::kinds;
 ghost use mathlib.Core.Path.{_≡_};
 ghost use mathlib.Core.List.{_++_};
-ghost use Prim.Native.Nat.{ℕ, _+_, _*_, _/_, _≤_, _<_};
+ghost use Prim.Native.Nat.{_+_, _*_, _/_, _≤_, _<_};
 ghost use lib.ListN.{length, replicate, drop};
 ghost use Rattle.rules.specs.Cell.{Positive, cells};
 ghost use Rattle.rules.specs.TableFile.{laidOver, listedOver};
@@ -18,31 +21,31 @@ fn fill(to: &mut [u8], n: usize, x: u8)
 }
 
 // The byte at place j of a cell record, at the cell that it names. Any other record writes nothing.
-fn store_record(r: &[u8], ks: [u8; 8], j: usize, to: &mut [u8])
+fn store_record(r: &[u8], ks: [u8; PLACES], j: usize, to: &mut [u8])
     requires { ⌜ Positive ks × (cells ks ≤ 1024) × (cells ks ≤ length (now to)) × (j < 16) × (length (now r) ≡ 16) × RecordBelow (now r) ks ⌝ }
     ensures { λ _. ⌜ now (to .exit) ≡ laidOver (now (r .entry)) ks j (now (to .entry)) ⌝ }
 {
-    if r[0] == 3 {
+    if r[0] == kinds::CELL {
         let cell = places::number(ks, r, 8);
         to[cell] = r[j];
     }
 }
 
 // The same for every record of a file.
-fn store(file: &[u8], ks: [u8; 8], j: usize, to: &mut [u8])
+fn store(file: &[u8], ks: [u8; PLACES], j: usize, to: &mut [u8])
     requires { ⌜ Positive ks × (cells ks ≤ 1024) × (cells ks ≤ length (now to)) × (j < 16) × (length (now file) ≤ 16528) × ListedBelow (now file) ks ⌝ }
     ensures { λ _. ⌜ now (to .exit) ≡ listedOver (now (file .entry)) ks j 0 (length (now (file .entry)) / 16) (now (to .entry)) ⌝ }
 {
-    let count = file.len() / 16;
+    let count = file.len() / RECORD;
     for k in 0..count {
-        let a = 16 * k;
-        let b = a + 16;
+        let a = RECORD * k;
+        let b = a + RECORD;
         store_record(&file[a..b], ks, j, to);
     }
 }
 
 // A limit of every cell: what the file lists, over the same limit for the cells that it doesn't.
-pub fn write_limits(file: &[u8], ks: [u8; 8], j: usize, unlisted: u8, to: &mut [u8])
+pub fn write_limits(file: &[u8], ks: [u8; PLACES], j: usize, unlisted: u8, to: &mut [u8])
     requires { ⌜ Positive ks × (cells ks ≤ 1024) × (cells ks ≤ length (now to)) × (j < 16) × (length (now file) ≤ 16528) × ListedBelow (now file) ks ⌝ }
     ensures { λ _. ⌜ now (to .exit) ≡ listedOver (now (file .entry)) ks j 0 (length (now (file .entry)) / 16) (replicate (cells ks) unlisted) ++ drop (cells ks) (now (to .entry)) ⌝ }
 {

@@ -3,3 +3,4 @@ pub mod PartLaws
 pub mod ScanLaws
 pub mod LineLaws
 pub mod OverLaws
+pub mod LeastLaws

@@ -52,3 +52,12 @@ pub record Blocks (w : List ℕ) (a count step card : ℕ) : Type 0 where
 unfoldable pub alongLines : Bool → List ℕ → ℕ → ℕ → ℕ → List ℕ
 alongLines greatest f step card count =
     tabulate (step * card * count) (λ c. overTo (best greatest) (λ v. true) (λ v. at f (c % step + c / step / card * card * step + v * step)) (at f c) card)
+
+-- where the line through cell c of the table at a starts
+abbrev pub lineStart : ℕ → ℕ → ℕ → ℕ → ℕ
+lineStart a c step card = a + (c % step + c / (step * card) * (step * card))
+
+-- that line lies within the buffer, and its block is small
+pub record LineAt (w : List ℕ) (a c step card : ℕ) : Type 0 where
+  pub line : Line w (lineStart a c step card) step card
+  pub few : step * card ≤ 1024

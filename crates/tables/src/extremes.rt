@@ -1,11 +1,13 @@
 // Extremes over conditions, in place. The cells that differ in one condition only form a line; lines
 // are walked by counting, with no division for a cell.
+use rules::PLACES;
 ghost use Prim.Native.Nat.{_+_, _*_, _≤_, _<_};
 ghost use mathlib.Core.Path.{_≡_};
+ghost use mathlib.Core.Bool.{false};
 ghost use lib.ListN.{length};
 ghost use Rattle.rules.specs.Cell.{cells, singleton, over};
 ghost use Rattle.tables.specs.Part.{part, Laid, Shaped};
-ghost use Rattle.tables.specs.Line.{best, lineBest, Line, Spread, Block, BlockSet, Blocks, alongLines};
+ghost use Rattle.tables.specs.Line.{best, lineBest, lineStart, Line, LineAt, Spread, Block, BlockSet, Blocks, alongLines};
 
 pub fn extreme(greatest: bool, a: u8, b: u8) -> u8
     ensures { λ r. ⌜ r ≡ best greatest a b ⌝ }
@@ -62,7 +64,7 @@ fn blocks(w: &mut [u8], greatest: bool, a: usize, count: usize, step: usize, car
 }
 
 // The extreme over condition i at every cell of the table at a.
-pub fn over_one(w: &mut [u8], greatest: bool, ks: [u8; 8], i: usize, a: usize)
+pub fn over_one(w: &mut [u8], greatest: bool, ks: [u8; PLACES], i: usize, a: usize)
     requires { ⌜ (i < 8) × Shaped ks × (a + cells ks ≤ length (now w)) ⌝ }
     ensures { λ _. ⌜ Laid (now (w .entry)) a (over (best greatest) ks (singleton i) (part (now (w .entry)) a (cells ks))) (cells ks) (now (w .exit)) ⌝ }
 {
@@ -73,13 +75,23 @@ pub fn over_one(w: &mut [u8], greatest: bool, ks: [u8; 8], i: usize, a: usize)
 }
 
 // The extreme over a set of conditions at every cell of the table at a.
-pub fn over_set(w: &mut [u8], greatest: bool, ks: [u8; 8], set: u8, a: usize)
+pub fn over_set(w: &mut [u8], greatest: bool, ks: [u8; PLACES], set: u8, a: usize)
     requires { ⌜ Shaped ks × (a + cells ks ≤ length (now w)) ⌝ }
     ensures { λ _. ⌜ Laid (now (w .entry)) a (over (best greatest) ks set (part (now (w .entry)) a (cells ks))) (cells ks) (now (w .exit)) ⌝ }
 {
-    for i in 0..8 {
+    for i in 0..PLACES {
         if places::has_member(set, i) {
             over_one(w, greatest, ks, i, a);
         }
     }
+}
+
+// The least grade along the line through cell c of a table: the cells that are step apart, card of
+// them.
+pub fn least_at(w: &[u8], table: usize, c: usize, step: usize, card: usize) -> u8
+    requires { ⌜ LineAt (now w) table c step card ⌝ }
+    ensures { λ r. ⌜ r ≡ lineBest false (now (w .entry)) (lineStart table c step card) step card ⌝ }
+{
+    let block = step * card;
+    line_extreme(w, false, table + (c % step + c / block * block), step, card)
 }

@@ -1,4 +1,5 @@
 // Tables moved to other places, and the cells where a condition has one value.
+use rules::PLACES;
 ghost use Prim.Native.Nat.{_+_, _*_, _<_};
 ghost use mathlib.Core.Path.{_≡_};
 ghost use Rattle.rules.specs.Bytes.{at, tabulate};
@@ -7,14 +8,14 @@ ghost use Rattle.tables.specs.Part.{part, Laid, Apart, Shaped};
 ghost use Rattle.tables.specs.Line.{Spread};
 
 // The cell of b with the values of a cell of a.
-fn remap(a: [u8; 8], b: [u8; 8], cell: usize) -> usize
+fn remap(a: [u8; PLACES], b: [u8; PLACES], cell: usize) -> usize
     requires { ⌜ Shaped a × Shaped b ⌝ }
     ensures { λ r. ⌜ r ≡ remap a b cell ⌝ }
 {
     let mut rest = cell;
     let mut found: usize = 0;
     let mut step: usize = 1;
-    for i in 0..8 {
+    for i in 0..PLACES {
         let k = a[i] as usize;
         let l = b[i] as usize;
         found = found + rest % k % l * step;
@@ -25,7 +26,7 @@ fn remap(a: [u8; 8], b: [u8; 8], cell: usize) -> usize
 }
 
 // A table over the places b, from one over a.
-pub fn moved(w: &mut [u8], a: [u8; 8], b: [u8; 8], from: usize, to: usize)
+pub fn moved(w: &mut [u8], a: [u8; PLACES], b: [u8; PLACES], from: usize, to: usize)
     requires { ⌜ Shaped a × Shaped b × Apart (now w) from (cells a) to (cells b) ⌝ }
     ensures { λ _. ⌜ Laid (now (w .entry)) to (moved a b (part (now (w .entry)) from (cells a))) (cells b) (now (w .exit)) ⌝ }
 {

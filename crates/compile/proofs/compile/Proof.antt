@@ -5,8 +5,8 @@ use lib.ListN.{length}
 use borrow.Author.Needs.{needs}
 use Rattle.rules.specs.Cell.{cells}
 use Rattle.rules.specs.CompileCall.{compileRoom}
+use Rattle.laws.proofs.TestLaws.{passes}
 use Rattle.shape.specs.Shapes.{placesOf, isSound}
-use Rattle.join.proofs.RowLaws.{passes}
 use Rattle.compile.specs.Compiling.{Accepted}
 use Rattle.compile.proofs.RowLaws.{shape-stop, room-stop, limits-stop, room-by, limits-by, cells-between, writes}
 use Rattle.compile.proofs.FirstLaws.{roomy-means}

@@ -1,14 +1,21 @@
 -- `join::join_first` meets its contract.
-use mathlib.Core.Path.{refl, ap, _∙_}
 use mathlib.Core.List.{[], _∷_}
-use lib.ListN.{length, replicate}
+use lib.ListN.{length}
 use borrow.Author.Needs.{needs}
-use Prim.Native.Nat.{min}
-use Rattle.rules.specs.Verdict.{accepted, refused}
-use Rattle.join.proofs.PromiseLaws.{first-by}
-use Rattle.join.proofs.CallLaws.{Call, small, enough, first-ready, first-written, stopped-by, next-is}
+use borrow.Author.Tests.{not-true, not-false}
+use Rattle.join.proofs.RowLaws.{offered}
+use Rattle.join.proofs.OpenLaws.{first-ready}
+use Rattle.join.proofs.CallLaws.{Call, opening, fits}
+use Rattle.join.proofs.PromiseLaws.{first-stopped, first-no-join, first-limits}
 use Rattle.join.proofs.join_first.Statement.{statement}
 use Rattle.join.proofs.join_first.Tie as tie
+
+-- the call, once rows 4, 10, 5 and 7 let it pass
+call : (c : tie.After-enum-told)
+    → let k = c .before .before .before .before .before .before in
+    let a = k .before .before .before .before .before .before .args in
+    Call (a .shape) (a .lower .now) (a .upper .now) (a .s) (a .t) (length (a .out-lower .now) ∷ length (a .out-upper .now) ∷ []) (k .before .places .result) (k .cell-count .result)
+call c = let k = c .before .before .before .before .before .before in record { places = k .before .places .ensures; count = k .cell-count .ensures; offered = offered (c .before .before .judge .ensures) _ _ (cc) (c .enum-told .given .1) }
 
 places-requires : tie.Need-places-requires
 places-requires c κs = search needs
@@ -25,11 +32,8 @@ shorter-requires-2 c κs = search needs
 shorter-requires-3 : tie.Need-shorter-requires-3
 shorter-requires-3 c κs = search needs
 
-slice-aggregate-rows : tie.Need-slice-aggregate-rows
-slice-aggregate-rows c = search needs
-
-rows-requires : tie.Need-rows-requires
-rows-requires c κs = search needs
+judge-requires : tie.Need-judge-requires
+judge-requires c κs = search needs
 
 enum-known-refusal : tie.Need-enum-known-refusal
 enum-known-refusal c = search needs
@@ -37,58 +41,29 @@ enum-known-refusal c = search needs
 enum-told : tie.Need-enum-told
 enum-told c = search needs
 
+slice-aggregate-open : tie.Need-slice-aggregate-open
+slice-aggregate-open c = search needs
+
+open-requires : tie.Need-open-requires
+open-requires c κs = opening (call (c .before)) (search needs)
+
+returns : tie.Need-returns
+returns c = first-no-join (call (c .before .before .before .before)) (c .before .before .«open» .ensures) (not-true _ (c .if1 .taken))
+
 slice-aggregate-first-limits : tie.Need-slice-aggregate-first-limits
 slice-aggregate-first-limits c = search needs
 
--- the call, its rows judged
-call : (c : tie.After-rows)
-    → let a = c .before .before .before .before .before .before .before .before .before .before .before .args in
-    Call (a .shape) (a .lower .now) (a .upper .now) (a .gate) (a .s) (a .t) (length (a .lower .now)) (length (a .upper .now) ∷ length (a .out-lower .now) ∷ length (a .out-upper .now) ∷ []) (c .before .before .before .before .before .before .places .result) (c .before .before .before .before .before .cell-count .result) (c .before .before .shorter3 .result) (replicate 8192 0) (c .rows .result) (c .rows .last .0)
-call c =
-    let a = c .before .before .before .before .before .before .before .before .before .before .before .args in
-    record { places = c .before .before .before .before .before .before .places .ensures; count = c .before .before .before .before .before .cell-count .ensures; short = c .before .before .shorter3 .ensures ∙ ap (min (length (a .lower .now))) (c .before .before .before .shorter2 .ensures ∙ ap (min (length (a .upper .now))) (c .before .before .before .before .shorter .ensures)); rows = c .rows .ensures }
-
 first-limits-requires : tie.Need-first-limits-requires
-first-limits-requires c κs = first-ready (call (c .before .before .before .before)) (c .before .enum-told .given .1) (search needs)
+first-limits-requires c κs = first-ready (c .before .before .before .«open» .ensures .joining)
 
-slice-aggregate-unload : tie.Need-slice-aggregate-unload
-slice-aggregate-unload c = search needs
+slice-aggregate-deliver : tie.Need-slice-aggregate-deliver
+slice-aggregate-deliver c = search needs
 
-mul-unload : tie.Need-mul-unload
-mul-unload c = let i = small (call (c .before .before .before .before .before .before .before)) (c .before .before .before .before .enum-told .given .1) in search needs
+deliver-requires : tie.Need-deliver-requires
+deliver-requires c κs = let f = fits (call (c .before .before .before .before .before .before .before .before .before .before)) in search needs
 
-unload-requires : tie.Need-unload-requires
-unload-requires c κs =
-    let i = small (call (c .before .before .before .before .before .before .before .before)) (c .before .before .before .before .before .enum-told .given .1) in
-    let e = enough (call (c .before .before .before .before .before .before .before .before)) (c .before .before .before .before .before .enum-told .given .1) in
-    let s0 = c .before .before .before .before .before .before .before .before .before .before .shorter3 .ensures in
-    let s1 = c .before .before .before .before .before .before .before .before .before .before .before .shorter2 .ensures in
-    let s2 = c .before .before .before .before .before .before .before .before .before .before .before .before .shorter .ensures in
-    let l = c .before .before .before .first-limits .ensures .kept .len in
-    let r = c .before .before .before .before .before .before .before .before .rows .ensures .len in
-    (search needs, search needs)
-
-slice-aggregate-unload-2 : tie.Need-slice-aggregate-unload-2
-slice-aggregate-unload-2 c = search needs
-
-mul-unload-2 : tie.Need-mul-unload-2
-mul-unload-2 c = let i = small (call (c .before .before .before .before .before .before .before .before .before .before .before .before)) (c .before .before .before .before .before .before .before .before .before .enum-told .given .1) in search needs
-
-unload-requires-2 : tie.Need-unload-requires-2
-unload-requires-2 c κs =
-    let i = small (call (c .before .before .before .before .before .before .before .before .before .before .before .before .before)) (c .before .before .before .before .before .before .before .before .before .before .enum-told .given .1) in
-    let e = enough (call (c .before .before .before .before .before .before .before .before .before .before .before .before .before)) (c .before .before .before .before .before .before .before .before .before .before .enum-told .given .1) in
-    let s0 = c .before .before .before .before .before .before .before .before .before .before .before .before .before .before .before .shorter3 .ensures in
-    let s1 = c .before .before .before .before .before .before .before .before .before .before .before .before .before .before .before .before .shorter2 .ensures in
-    let s2 = c .before .before .before .before .before .before .before .before .before .before .before .before .before .before .before .before .before .shorter .ensures in
-    let l = c .before .before .before .before .before .before .before .before .first-limits .ensures .kept .len in
-    let r = c .before .before .before .before .before .before .before .before .before .before .before .before .before .rows .ensures .len in
-    (search needs, search needs)
-
-returns : tie.Need-returns
-returns c =
-    let a = c .before .before .before .before .before .before .before .before .before .before .before .before .before .before .before .args in
-    first-by (a .shape) (a .lower .now) (a .upper .now) (a .gate) (a .s) (a .t) (a .out-lower .now) (a .out-upper .now) (refused (c .before .refusal .given .0 .0)) (stopped-by (call (c .before .before .before .before)) _ (c .before .refusal .given .1)) refl refl
+returns-2 : tie.Need-returns-2
+returns-2 c = first-stopped (c .before .before .before .judge .ensures) (cc) (c .before .refusal .given .1)
 
 same-length : tie.Need-same-length
 same-length c = search needs
@@ -96,12 +71,12 @@ same-length c = search needs
 same-length-2 : tie.Need-same-length-2
 same-length-2 c = search needs
 
-returns-2 : tie.Need-returns-2
-returns-2 c =
-    let a = c .before .before .before .before .before .before .before .before .before .before .before .before .before .before .before .before .before .before .before .before .before .before .before .before .before .before .before .args in
-    let k = call (c .before .before .before .before .before .before .before .before .before .before .before .before .before .before .before .before) in
-    let w = first-written k (c .before .before .before .before .before .before .before .before .before .before .before .before .before .enum-told .given .1) (c .before .before .before .before .before .before .before .before .before .before .before .first-limits .ensures) (search needs) in
-    first-by (a .shape) (a .lower .now) (a .upper .now) (a .gate) (a .s) (a .t) (a .out-lower .now) (a .out-upper .now) (accepted _) (next-is k (c .before .before .before .before .before .before .before .before .before .before .before .before .before .enum-told .given .1) _) (c .before .before .before .before .before .before .before .unload .ensures ∙ w (a .out-lower .now) .0) (c .before .before .unload2 .ensures ∙ w (a .out-upper .now) .1)
+returns-3 : tie.Need-returns-3
+returns-3 c =
+    let d = c .before .before .before .before in
+    let f = d .before .before .before .before .before in
+    let o = f .before .before .before .before in
+    first-limits (call (o .before .before)) (o .«open» .ensures) (not-false _ (f .before .before .if1 .left)) (f .first-limits .ensures) (d .deliver .ensures)
 
 pub join-first-spec : {M : Type 1} → statement M
 join-first-spec =
@@ -112,19 +87,17 @@ join-first-spec =
     shorter-requires
     shorter-requires-2
     shorter-requires-3
-    slice-aggregate-rows
-    rows-requires
+    judge-requires
     enum-known-refusal
     enum-told
+    slice-aggregate-open
+    open-requires
+    returns
     slice-aggregate-first-limits
     first-limits-requires
-    slice-aggregate-unload
-    mul-unload
-    unload-requires
-    slice-aggregate-unload-2
-    mul-unload-2
-    unload-requires-2
-    returns
+    slice-aggregate-deliver
+    deliver-requires
+    returns-2
     same-length
     same-length-2
-    returns-2)
+    returns-3)

@@ -12,8 +12,8 @@ use Rattle.rules.specs.Cell.{cells}
 use Rattle.rules.specs.Limits.{limitsOf, limitsSound}
 use Rattle.rules.specs.Verdict.{roomy}
 use Rattle.rules.specs.Network.{networkSound}
+use Rattle.laws.proofs.ByteLaws.{past-same}
 use Rattle.shape.specs.Shapes.{placesOf, isSound}
-use Rattle.network.proofs.WorkLaws.{kept-same}
 use Rattle.network.proofs.CallLaws.{networkTest, check-by, roomy-means}
 use Rattle.network.proofs.CheckLaws.{checked, never-refused}
 use borrow.Author.Needs.{needs}
@@ -26,7 +26,7 @@ sound-requires c κs = search needs
 returns : tie.Need-returns
 returns c =
     let a = c .before .before .before .before .before .before .args in
-    checked (a .shape) (a .network .now) (a .lower .now) (a .upper .now) (a .work .now) _ _ (λ r e. refl) (kept-same _ _)
+    checked (a .shape) (a .network .now) (a .lower .now) (a .upper .now) (a .work .now) _ _ (λ r e. refl) past-same
     (sym (check-by (a .shape) (a .network .now) (a .lower .now) (a .upper .now) (a .work .now) false _ _ _ _ (sym (c .before .sound .ensures) ∙ not-true (c .before .sound .result) (c .if1 .taken)) refl refl refl refl))
 
 -- what each test has shown
@@ -47,7 +47,7 @@ room-is c =
 returns-2 : tie.Need-returns-2
 returns-2 c =
     let a = c .before .before .before .before .before .before .before .before .before .args in
-    checked (a .shape) (a .network .now) (a .lower .now) (a .upper .now) (a .work .now) _ _ (λ r e. refl) (kept-same _ _)
+    checked (a .shape) (a .network .now) (a .lower .now) (a .upper .now) (a .work .now) _ _ (λ r e. refl) past-same
     (sym (check-by (a .shape) (a .network .now) (a .lower .now) (a .upper .now) (a .work .now) true false _ _ _ (shape-passes (c .before .before .before)) (room-is (c .before) ∙ not-true (c .before .has-room .result) (c .if2 .taken)) refl refl refl))
 
 room-passes : (c : tie.Else2) → (let a = c .before .before .before .before .before .before .before .before .before .args in roomy (cells (placesOf (a .shape))) (length (a .lower .now) ∷ length (a .upper .now) ∷ [])) ≡ true
@@ -56,7 +56,7 @@ room-passes c = room-is (c .before) ∙ not-false (c .before .has-room .result) 
 returns-3 : tie.Need-returns-3
 returns-3 c =
     let a = c .before .before .before .before .before .before .before .before .before .before .args in
-    checked (a .shape) (a .network .now) (a .lower .now) (a .upper .now) (a .work .now) _ _ (λ r e. refl) (kept-same _ _)
+    checked (a .shape) (a .network .now) (a .lower .now) (a .upper .now) (a .work .now) _ _ (λ r e. refl) past-same
     (sym (check-by (a .shape) (a .network .now) (a .lower .now) (a .upper .now) (a .work .now) true true false _ _ (shape-passes (c .before .before .before .before)) (room-passes (c .before)) (lt-leb _ _ (c .if3 .taken)) refl refl))
 
 limits-sound-requires : tie.Need-limits-sound-requires
@@ -74,7 +74,7 @@ limits-are c =
 returns-4 : tie.Need-returns-4
 returns-4 c =
     let a = c .before .before .before .before .before .before .before .before .before .before .before .before .args in
-    checked (a .shape) (a .network .now) (a .lower .now) (a .upper .now) (a .work .now) _ _ (λ r e. refl) (kept-same _ _)
+    checked (a .shape) (a .network .now) (a .lower .now) (a .upper .now) (a .work .now) _ _ (λ r e. refl) past-same
     (sym (check-by (a .shape) (a .network .now) (a .lower .now) (a .upper .now) (a .work .now) true true true false _ (shape-passes (c .before .before .before .before .before .before)) (room-passes (c .before .before .before)) (le-leb _ _ (c .before .before .if3 .left)) (limits-are (c .before) ∙ not-true (c .before .limits-sound .result) (c .if4 .taken)) refl))
 
 limits-pass : (c : tie.Else4) → (let a = c .before .before .before .before .before .before .before .before .before .before .before .before .args in limitsSound (placesOf (a .shape)) (a .shape .m) (limitsOf (a .lower .now) (a .upper .now))) ≡ true
@@ -94,7 +94,7 @@ network-is c =
 returns-5 : tie.Need-returns-5
 returns-5 c =
     let a = c .before .before .before .before .before .before .before .before .before .before .before .before .before .before .before .args in
-    checked (a .shape) (a .network .now) (a .lower .now) (a .upper .now) (a .work .now) _ _ (λ r e. refl) (kept-same _ _)
+    checked (a .shape) (a .network .now) (a .lower .now) (a .upper .now) (a .work .now) _ _ (λ r e. refl) past-same
     (sym (check-by (a .shape) (a .network .now) (a .lower .now) (a .upper .now) (a .work .now) true true true true false (shape-passes (c .before .before .before .before .before .before .before .before .before)) (room-passes (c .before .before .before .before .before .before)) (le-leb _ _ (c .before .before .before .before .before .if3 .left)) (limits-pass (c .before .before .before)) (network-is (c .before) ∙ not-true (c .before .scan .result) (c .if5 .taken))))
 
 network-passes : (c : tie.Else5) → networkTest (c .before .before .before .before .before .before .before .before .before .before .before .before .before .before .before .args .shape) (c .before .before .before .before .before .before .before .before .before .before .before .before .before .before .before .args .network .now) ≡ true

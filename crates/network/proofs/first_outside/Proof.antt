@@ -1,16 +1,17 @@
 -- `network::first_outside` meets its contract.
 use mathlib.Core.Path.{_≡_, sym, ap, _∙_}
 use mathlib.Core.List.{List}
-use Prim.Native.Nat.{ℕ, _-_, _≤_}
+use Prim.Native.Nat.{ℕ, _-_, _/_, _≤_}
 use native.Mathlib.Omega.{arith}
+use lib.ListN.{length}
 use borrow.Author.Tests.{not-true, not-false}
 use Rattle.rules.specs.Cell.{cells}
 use Rattle.rules.specs.Limits.{Limits, limitsOf}
 use Rattle.rules.specs.Verdict.{accepted}
 use Rattle.rules.specs.NetworkCalls.{gradeWithin, outside, checkFrom}
+use Rattle.rules.specs.Bytes.{Past}
+use Rattle.laws.proofs.ByteLaws.{past-same, past-then}
 use Rattle.shape.specs.Shapes.{placesOf}
-use Rattle.network.specs.Grades.{Kept}
-use Rattle.network.proofs.WorkLaws.{kept-same, kept-then}
 use Rattle.network.proofs.CheckLaws.{cellWithin, check-next, check-stop, check-end}
 use borrow.Author.Needs.{needs}
 use Rattle.network.proofs.first_outside.Statement.{statement}
@@ -19,7 +20,7 @@ use Rattle.network.proofs.first_outside.Tie as tie
 abbrev Inv-loop : tie.InvT-loop
 Inv-loop network shape lower upper work₀ cells cell₀ work cell =
     (cell ≤ cells)
-    × Kept network work₀ work
+    × Past (length network / 16) work₀ work
     × (checkFrom (placesOf shape) (limitsOf lower upper) network 0 cells ≡ checkFrom (placesOf shape) (limitsOf lower upper) network cell (cells - cell))
 
 abbrev μ-loop : tie.MeasureT-loop
@@ -32,7 +33,7 @@ loop-holds : tie.Need-loop-holds Inv-loop μ-loop
 loop-holds c =
     let n = c .cells .result in
     let whole : n ≡ n - 0 = omega arith in
-    (search needs, kept-same _ _, ap (checkFrom _ _ _ 0) whole)
+    (search needs, past-same, ap (checkFrom _ _ _ 0) whole)
 
 grade-at-requires : tie.Need-grade-at-requires Inv-loop μ-loop
 grade-at-requires c κs =
@@ -55,8 +56,8 @@ within-is c =
     let a = c .before .before .before .before .before .before .before .before .before .before .before .before .before .before .args in
     ap (gradeWithin (limitsOf (a .lower .now) (a .upper .now)) (c .before .before .before .before .before .before .before .before .loop .cell)) (sym (c .before .before .before .before .before .grade-at .ensures .right)) ∙ sym (c .grade-within .ensures)
 
-kept-here : (c : tie.After-grade-within Inv-loop μ-loop) → Kept (c .before .before .before .before .before .before .before .before .before .before .before .before .before .before .args .network .now) (c .before .before .before .before .before .before .before .before .before .before .before .before .before .before .args .work .now) (c .before .before .before .before .before .grade-at .last .1 .1 .1 .0)
-kept-here c = kept-then _ _ (c .before .before .before .before .before .before .before .before .loop .work) _ (c .before .before .before .before .before .before .before .before .loop .inv .1) (c .before .before .before .before .before .grade-at .ensures .kept)
+kept-here : (c : tie.After-grade-within Inv-loop μ-loop) → Past (length (c .before .before .before .before .before .before .before .before .before .before .before .before .before .before .args .network .now) / 16) (c .before .before .before .before .before .before .before .before .before .before .before .before .before .before .args .work .now) (c .before .before .before .before .before .grade-at .last .1 .1 .1 .0)
+kept-here c = past-then (c .before .before .before .before .before .before .before .before .loop .inv .1) (c .before .before .before .before .before .grade-at .ensures .kept)
 
 same-length : tie.Need-same-length Inv-loop μ-loop
 same-length c = kept-here (c .before) .long

@@ -1,8 +1,8 @@
 -- `network::has_room` meets its contract.
 use borrow.Author.Tests.{le-leb, lt-leb}
-use Rattle.network.proofs.TestLaws.{and-true}
 use Rattle.network.proofs.has_room.Statement.{statement}
 use Rattle.network.proofs.has_room.Tie as tie
+use Rattle.laws.proofs.TestLaws.{and-true}
 
 returns : tie.Need-returns
 returns c = simp (le-leb _ _ (c .if1 .taken)) (and-true _)

@@ -1,10 +1,10 @@
 -- `panel::grades_check` meets its contract.
-use mathlib.Core.Path.{sym, _∙_}
 use borrow.Author.Needs.{needs}
 use Rattle.panel.proofs.CheckLaws.{checks, check-refuses, few}
 use Rattle.panel.proofs.ShapeLaws.{made}
 use Rattle.panel.proofs.grades_check.Statement.{statement}
 use Rattle.panel.proofs.grades_check.Tie as tie
+use Rattle.shape.proofs.ShapeLaws.{makes-accepted, makes-refused}
 
 from-bytes-requires : tie.Need-from-bytes-requires
 from-bytes-requires c κs = search needs
@@ -27,7 +27,7 @@ of-check-requires c κs = few (c .before .before .check .ensures)
 returns : tie.Need-returns
 returns c =
     let a = c .before .before .before .before .before .before .before .before .before .before .args in
-    check-refuses (a .network .now) (a .shape .now) (a .lower .now) (a .upper .now) (a .work .now) (c .of-refusal .result) _ (sym (c .before .before .before .before .from-bytes .ensures) ∙ c .before .before .refusal .given .1) (c .of-refusal .ensures)
+    check-refuses (a .network .now) (a .shape .now) (a .lower .now) (a .upper .now) (a .work .now) (c .of-refusal .result) _ (makes-refused (c .before .before .before .before .from-bytes .ensures) (c .before .before .refusal .given .1)) (c .of-refusal .ensures)
 
 same-length : tie.Need-same-length
 same-length c = search needs
@@ -36,7 +36,7 @@ returns-2 : tie.Need-returns-2
 returns-2 c =
     let a = c .before .before .before .before .before .before .before .before .before .before .before .before .before .before .args in
     let at-shape = c .before .before .before .before .before .before in
-    checks (a .network .now) (a .shape .now) (a .lower .now) (a .upper .now) (a .work .now) (c .of-check .result) _ _ _ (made (a .shape .now) (sym (at-shape .before .before .from-bytes .ensures) ∙ at-shape .shape .given .1)) (c .before .before .before .check .ensures) (c .of-check .ensures)
+    checks (a .network .now) (a .shape .now) (a .lower .now) (a .upper .now) (a .work .now) (c .of-check .result) _ _ _ (made (a .shape .now) (makes-accepted (at-shape .before .before .from-bytes .ensures) (at-shape .shape .given .1))) (c .before .before .before .check .ensures) (c .of-check .ensures)
 
 pub grades-check-spec : {M : Type 1} → statement M
 grades-check-spec =

@@ -1,10 +1,10 @@
 -- `panel::grades_evaluate` meets its contract.
-use mathlib.Core.Path.{sym, _∙_}
 use borrow.Author.Needs.{needs}
 use Rattle.panel.proofs.ShapeLaws.{made}
 use Rattle.panel.proofs.EvaluateLaws.{evaluates, refuses}
 use Rattle.panel.proofs.grades_evaluate.Statement.{statement}
 use Rattle.panel.proofs.grades_evaluate.Tie as tie
+use Rattle.shape.proofs.ShapeLaws.{makes-accepted, makes-refused}
 
 from-bytes-requires : tie.Need-from-bytes-requires
 from-bytes-requires c κs = search needs
@@ -31,13 +31,13 @@ returns : tie.Need-returns
 returns c =
     let a = c .before .before .before .before .before .before .before .before .before .before .before .before .args in
     let at-shape = c .before .before .before .before .before .before in
-    evaluates (a .network .now) (a .shape .now) (a .cell) (a .work .now) _ _ _ _ (made (a .shape .now) (sym (at-shape .before .before .from-bytes .ensures) ∙ at-shape .shape .given .1)) (c .before .before .before .evaluate .ensures) (c .of-evaluation .ensures)
+    evaluates (a .network .now) (a .shape .now) (a .cell) (a .work .now) _ _ _ _ (made (a .shape .now) (makes-accepted (at-shape .before .before .from-bytes .ensures) (at-shape .shape .given .1))) (c .before .before .before .evaluate .ensures) (c .of-evaluation .ensures)
 
 returns-2 : tie.Need-returns-2
 returns-2 c =
     let a = c .before .before .before .before .before .before .before .before .args in
     let at-refusal = c .before .before in
-    refuses (a .network .now) (a .shape .now) (a .cell) (a .work .now) _ _ (sym (at-refusal .before .before .from-bytes .ensures) ∙ at-refusal .refusal .given .1) (c .of-evaluation2 .ensures)
+    refuses (a .network .now) (a .shape .now) (a .cell) (a .work .now) _ _ (makes-refused (at-refusal .before .before .from-bytes .ensures) (at-refusal .refusal .given .1)) (c .of-evaluation2 .ensures)
 
 pub grades-evaluate-spec : {M : Type 1} → statement M
 grades-evaluate-spec =

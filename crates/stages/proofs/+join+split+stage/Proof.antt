@@ -31,10 +31,10 @@ use Rattle.places.proofs.sets.lowest.Reads as lowest-reads
 use Rattle.places.proofs.sets.singleton.Reads as singleton-reads
 use Rattle.places.proofs.sets.width.Reads as width-reads
 use Rattle.places.proofs.sets.without.Reads as without-reads
-use Rattle.stage_tables.proofs.drops.drop_all.Reads as drop-all-reads
-use Rattle.stage_tables.proofs.blocks.first_table.Reads as first-table-reads
-use Rattle.stage_tables.proofs.blocks.second_table.Reads as second-table-reads
-use Rattle.stage_tables.proofs.choice.choose.Reads as choose-reads
+use Rattle.stage_drops.proofs.drop_all.Reads as drop-all-reads
+use Rattle.stage_blocks.proofs.first_table.Reads as first-table-reads
+use Rattle.stage_blocks.proofs.second_table.Reads as second-table-reads
+use Rattle.stage_choice.proofs.choose.Reads as choose-reads
 use Rattle.stage_steps.proofs.ends.close_join.Reads as close-join-reads
 use Rattle.stage_steps.proofs.ends.leaf.Reads as leaf-reads
 use Rattle.stage_steps.proofs.ends.spread.Reads as spread-reads

@@ -9,16 +9,16 @@ use borrow.Author.Tests.{lt-leb, le-leb}
 use Rattle.rules.specs.Cell.{cells}
 use Rattle.rules.specs.Verdict.{accepted}
 use Rattle.rules.specs.TableFile.{judgeFile, listedOver}
-use Rattle.laws.proofs.TestLaws.{by-order}
+use Rattle.laws.proofs.TestLaws.{by-order, and-both, and-left, and-right}
 use Rattle.shape.specs.declared.Shape.{Shape}
 use Rattle.shape.specs.Shapes.{placesOf}
 use Rattle.shape.proofs.ShapeLaws.{shape-positive, from-cards}
-use Rattle.table_file.specs.Reading.{seenOf, verdictOf}
-use Rattle.table_file.proofs.RecordLaws.{and-true, and-left, and-right}
+use Rattle.table_records.specs.Records.{seenOf, verdictOf}
 use Rattle.table_file.proofs.FileLaws.{accepted-file}
 use Rattle.table_file.proofs.ReadLaws.{read-refused, read-short, read-table}
 use lib.ListN.{replicate}
 use Rattle.table_file.specs.declared.TableAnswer.the-variants.{Table}
+use Rattle.table_file.specs.Reading.{tableMeans}
 use borrow.Author.Needs.{needs}
 use Rattle.table_file.proofs.read_table.Statement.{statement}
 use Rattle.table_file.proofs.read_table.Tie as tie
@@ -44,7 +44,7 @@ abbrev shape-of : tie.After-seen → Shape
 shape-of c = c .seen .given .0 .0 .shape
 
 file-verdict : (c : tie.After-seen) → judgeFile (c .before .before .before .before .before .before .args .file .now) ≡ accepted (seenOf (c .seen .given .0 .0))
-file-verdict c = sym (c .before .before .judge .ensures) ∙ ap verdictOf (c .seen .given .1)
+file-verdict c = sym (c .before .before .judge .ensures .answer) ∙ ap verdictOf (c .seen .given .1)
 
 returns : tie.Need-returns
 returns c =
@@ -80,7 +80,7 @@ write-limits-requires-2 c κs =
     rw (c .before .before .before .before .before .before .places .ensures) (shape-positive s, f .kept .few, omega (arith, c .before .before .before .before .before .before .before .before .before .cells .ensures, c .before .before .before .before .before .before .before .if2 .left), search needs, f .short, f .listed)
 
 returns-3 : tie.Need-returns-3
-returns-3 c = read-refused (c .before .before .before .before .before .before .before .args .file .now) (c .before .before .before .before .before .before .before .args .lower .now) (c .before .before .before .before .before .before .before .args .upper .now) _ (sym (c .before .before .before .judge .ensures) ∙ ap verdictOf (c .before .refusal .given .1))
+returns-3 c = read-refused (c .before .before .before .before .before .before .before .args .file .now) (c .before .before .before .before .before .before .before .args .lower .now) (c .before .before .before .before .before .before .before .args .upper .now) _ (sym (c .before .before .before .judge .ensures .answer) ∙ ap verdictOf (c .before .refusal .given .1))
 
 same-length : tie.Need-same-length
 same-length c = search needs
@@ -95,9 +95,10 @@ returns-4 c =
     let n = c .before .before .before .before .before .before .before .before .before .before .before .before .cells .ensures in
     let ks = c .before .before .before .before .before .before .before .before .before .places .ensures in
     let w = read-table (a .file .now) (a .lower .now) (a .upper .now) _ (file-verdict (c .before .before .before .before .before .before .before .before .before .before .before .before .before .before .before))
-    (and-true (le-leb _ _ (subst (λ (k : ℕ). k ≤ length (a .lower .now)) n (c .before .before .before .before .before .before .before .before .before .before .before .if1 .left))) (le-leb _ _ (subst (λ (k : ℕ). k ≤ length (a .upper .now)) n (c .before .before .before .before .before .before .before .before .before .before .if2 .left)))) in
+    (and-both (le-leb _ _ (subst (λ (k : ℕ). k ≤ length (a .lower .now)) n (c .before .before .before .before .before .before .before .before .before .before .before .if1 .left))) (le-leb _ _ (subst (λ (k : ℕ). k ≤ length (a .upper .now)) n (c .before .before .before .before .before .before .before .before .before .before .if2 .left)))) in
     record {
       answer = ap Table (sym (from-cards s)) ∙ w .answer;
+      means = ap (λ (x : Shape). tableMeans (Table x)) (sym (from-cards s)) ∙ w .means;
       lower-after = c .before .before .before .before .before .before .write-limits .ensures ∙ ap (λ (l : List ℕ). laid-limits (a .file .now) l 1 0 (a .lower .now)) ks ∙ w .lower-after;
       upper-after = c .before .before .write-limits2 .ensures ∙ ap (λ (l : List ℕ). laid-limits (a .file .now) l 2 (s .m - 1) (a .upper .now)) ks ∙ w .upper-after;
     }

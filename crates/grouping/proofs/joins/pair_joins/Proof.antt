@@ -4,7 +4,7 @@ use Prim.Native.Nat.{ℕ, _-_, _≤_, _<_}
 use native.Mathlib.Omega.{arith}
 use lib.ListN.{getD}
 use mathlib.Core.Bool.{true}
-use Rattle.grouping.proofs.LeastLaws.{Axis, line-at}
+use Rattle.tables.proofs.LeastLaws.{Axis, line-at}
 use Rattle.grouping.proofs.JoiningLaws.{pairCell, pair-passed, pair-failed}
 use borrow.Author.Tests.{le-leb, lt-leb}
 use borrow.Author.Count.{below-more}

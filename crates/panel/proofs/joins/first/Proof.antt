@@ -1,10 +1,10 @@
 -- `panel::joins::first` meets its contract.
-use mathlib.Core.Path.{sym, _∙_}
 use borrow.Author.Needs.{needs}
 use Rattle.panel.proofs.JoinLaws.{first-joins, first-refuses}
 use Rattle.panel.proofs.ShapeLaws.{made}
 use Rattle.panel.proofs.joins.first.Statement.{statement}
 use Rattle.panel.proofs.joins.first.Tie as tie
+use Rattle.shape.proofs.ShapeLaws.{makes-accepted, makes-refused}
 
 from-bytes-requires : tie.Need-from-bytes-requires
 from-bytes-requires c κs = search needs
@@ -27,7 +27,7 @@ of-join-requires c κs = search needs
 returns : tie.Need-returns
 returns c =
     let a = c .before .before .before .before .before .before .before .before .before .before .args in
-    first-refuses (a .gate) (a .shape .now) (a .lower .now) (a .upper .now) (a .s) (a .t) (a .out-lower .now) (a .out-upper .now) (c .of-refusal .result) _ (sym (c .before .before .before .before .from-bytes .ensures) ∙ c .before .before .refusal .given .1) (c .of-refusal .ensures)
+    first-refuses (a .gate) (a .shape .now) (a .lower .now) (a .upper .now) (a .s) (a .t) (a .out-lower .now) (a .out-upper .now) (c .of-refusal .result) _ (makes-refused (c .before .before .before .before .from-bytes .ensures) (c .before .before .refusal .given .1)) (c .of-refusal .ensures)
 
 same-length : tie.Need-same-length
 same-length c = search needs
@@ -39,7 +39,7 @@ returns-2 : tie.Need-returns-2
 returns-2 c =
     let a = c .before .before .before .before .before .before .before .before .before .before .before .before .before .before .before .before .before .args in
     let at-shape = c .before .before .before .before .before .before .before .before .before in
-    first-joins (a .gate) (a .shape .now) (a .lower .now) (a .upper .now) (a .s) (a .t) (a .out-lower .now) (a .out-upper .now) (c .of-join .result) _ _ _ _ (made (a .shape .now) (sym (at-shape .before .before .from-bytes .ensures) ∙ at-shape .shape .given .1)) (c .before .before .before .before .before .join-first .ensures) (c .of-join .ensures)
+    first-joins (a .gate) (a .shape .now) (a .lower .now) (a .upper .now) (a .s) (a .t) (a .out-lower .now) (a .out-upper .now) (c .of-join .result) _ _ _ _ (made (a .shape .now) (makes-accepted (at-shape .before .before .from-bytes .ensures) (at-shape .shape .given .1))) (c .before .before .before .before .before .join-first .ensures) (c .of-join .ensures)
 
 pub first-spec : {M : Type 1} → statement M
 first-spec =

@@ -1,7 +1,7 @@
 -- `panel::reading::no_room` meets its contract.
 use mathlib.Core.Path.{sym, ap, _∙_}
 use borrow.Author.Needs.{needs}
-use Rattle.table_file.specs.Reading.{verdictOf}
+use Rattle.table_records.specs.Records.{verdictOf}
 use Rattle.panel.proofs.ReadLaws.{short-number}
 use Rattle.panel.proofs.reading.no_room.Statement.{statement}
 use Rattle.panel.proofs.reading.no_room.Tie as tie
@@ -23,11 +23,11 @@ of-refusal-requires-2 c κs = search needs
 
 returns : tie.Need-returns
 returns c =
-    c .of-refusal .ensures ∙ short-number (c .before .before .before .before .before .before .args .file .now) _ (sym (ap verdictOf (c .before .before .refusal .given .1)) ∙ c .before .before .before .before .judge .ensures)
+    c .of-refusal .ensures ∙ short-number (c .before .before .before .before .before .before .args .file .now) _ (sym (ap verdictOf (c .before .before .refusal .given .1)) ∙ c .before .before .before .before .judge .ensures .answer)
 
 returns-2 : tie.Need-returns-2
 returns-2 c =
-    c .of-refusal2 .ensures ∙ short-number (c .before .before .before .before .before .args .file .now) _ (sym (ap verdictOf (c .before .enum-told .given .1)) ∙ c .before .before .before .judge .ensures)
+    c .of-refusal2 .ensures ∙ short-number (c .before .before .before .before .before .args .file .now) _ (sym (ap verdictOf (c .before .enum-told .given .1)) ∙ c .before .before .before .judge .ensures .answer)
 
 pub no-room-spec : {M : Type 1} → statement M
 no-room-spec =

@@ -1,12 +1,16 @@
 -- `shape::Shape::from_bytes` meets its contract.
-use mathlib.Core.Path.{sym, _∙_}
-use Rattle.shape.proofs.ShapeLaws.{bytes-other, bytes-ten}
+use mathlib.Core.Path.{sym, subst}
+use Rattle.rules.specs.declared.Refusal.the-variants.{ShapeRange}
+use Rattle.rules.specs.Verdict.{Verdict, refused}
+use Rattle.shape.specs.declared.Shape.{Shape}
+use Rattle.shape.specs.Shapes.{Makes}
+use Rattle.shape.proofs.ShapeLaws.{makes-as, bytes-other, bytes-ten}
 use borrow.Author.Needs.{needs}
 use Rattle.shape.proofs.Shape.from_bytes.Statement.{statement}
 use Rattle.shape.proofs.Shape.from_bytes.Tie as tie
 
 returns : tie.Need-returns
-returns c = sym (bytes-other (c .before .before .args .bytes .now) (c .if1 .taken))
+returns c = makes-as _ (refused ShapeRange) (bytes-other (c .before .before .args .bytes .now) (c .if1 .taken))
 
 shared-slice-read-new : tie.Need-shared-slice-read-new
 shared-slice-read-new c = search needs
@@ -42,7 +46,7 @@ new-requires : tie.Need-new-requires
 new-requires c κs = search needs
 
 returns-2 : tie.Need-returns-2
-returns-2 c = c .new .ensures ∙ sym (bytes-ten (c .before .before .before .before .before .before .before .before .before .before .before .before .before .args .bytes .now) (c .before .before .before .before .before .before .before .before .before .before .before .if1 .left))
+returns-2 c = subst (λ (v : Verdict Shape). Makes v (c .new .result)) (sym (bytes-ten (c .before .before .before .before .before .before .before .before .before .before .before .before .before .args .bytes .now) (c .before .before .before .before .before .before .before .before .before .before .before .if1 .left))) (c .new .ensures)
 
 pub from-bytes-spec : {M : Type 1} → statement M
 from-bytes-spec =

@@ -1,6 +1,8 @@
 -- `shape::Shape::new` meets its contract.
 use mathlib.Core.Path.{sym, _∙_}
-use Rattle.shape.proofs.ShapeLaws.{new-sound, new-unsound}
+use Rattle.rules.specs.declared.Refusal.the-variants.{ShapeRange}
+use Rattle.rules.specs.Verdict.{accepted, refused}
+use Rattle.shape.proofs.ShapeLaws.{makes-as, new-sound, new-unsound}
 use borrow.Author.Needs.{needs}
 use Rattle.shape.proofs.Shape.new.Statement.{statement}
 use Rattle.shape.proofs.Shape.new.Tie as tie
@@ -35,12 +37,12 @@ sound-requires c κs = search needs
 returns : tie.Need-returns
 returns c =
     let a = c .before .before .args in
-    sym (new-sound (a .n) (a .t2) (a .m) (search needs) (sym (c .before .sound .ensures) ∙ c .if1 .taken))
+    makes-as _ (accepted _) (new-sound (a .n) (a .t2) (a .m) (search needs) (sym (c .before .sound .ensures) ∙ c .if1 .taken))
 
 returns-2 : tie.Need-returns-2
 returns-2 c =
     let a = c .before .before .args in
-    sym (new-unsound (a .n) (a .t2) (a .m) (search needs) (sym (c .before .sound .ensures) ∙ c .if1 .left))
+    makes-as _ (refused ShapeRange) (new-unsound (a .n) (a .t2) (a .m) (search needs) (sym (c .before .sound .ensures) ∙ c .if1 .left))
 
 pub new-spec : {M : Type 1} → statement M
 new-spec =

@@ -7,8 +7,8 @@ use lib.ListN.{length}
 use Rattle.rules.specs.TableFile.{listedOver}
 use Rattle.rules.specs.Bytes.{recordAt}
 use Rattle.rules.specs.TableFile.{laidOver}
+use Rattle.laws.proofs.RecordLaws.{part-record, record-length}
 use Rattle.table_file.specs.Reading.{RecordBelow}
-use Rattle.table_file.proofs.RecordLaws.{part-record, length-record}
 use Rattle.table_file.proofs.ListedLaws.{length-laid, listed-next}
 use borrow.Author.Needs.{needs}
 use Rattle.table_file.proofs.writing.store.Statement.{statement}
@@ -50,7 +50,7 @@ store-record-requires c κs =
       p .1,
       omega (arith, p .2, l .inv .1),
       p .3,
-      ap length (part-record (a .file .now) (l .k)) ∙ length-record (a .file .now) (l .k) (omega arith),
+      ap length (part-record (a .file .now) (l .k)) ∙ record-length (a .file .now) (l .k) (omega arith),
       subst (λ (r : List ℕ). RecordBelow r (a .ks)) (sym (part-record (a .file .now) (l .k))) (p .5 (l .k) (search needs)),
     )
 

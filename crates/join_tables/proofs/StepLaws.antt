@@ -1,0 +1,188 @@
+-- A join's steps on its work buffer: what each part holds after them.
+use Prim.Native.Nat.{ℕ, _+_, _-_, _*_, _≤_, max}
+use mathlib.Core.Path.{_≡_, _∙_, ap, ap₂, subst}
+use mathlib.Core.Bool.{Bool}
+use mathlib.Core.List.{List}
+use mathlib.Core.Logic.{inl, inr}
+use native.Mathlib.Omega.{arith}
+use lib.Dec.{leb}
+use lib.ListN.{length}
+use Rattle.rules.specs.declared.Gate.{Gate}
+use Rattle.rules.specs.Bytes.{at, tabulate, all}
+use Rattle.rules.specs.Cell.{cells, over, greatestOver, leastOver}
+use Rattle.rules.specs.Join.{above, uA, uB, exchangeFor}
+use Rattle.laws.proofs.TableLaws.{at-tabulate, tabulate-same, all-same}
+use Rattle.laws.proofs.TestLaws.{by-order}
+use Rattle.laws.proofs.JoinLaws.{above-le}
+use Rattle.laws.proofs.OverLaws.{Bound, max-bound, min-bound, over-bound}
+use Rattle.laws.proofs.LineLaws.{over-same}
+use Rattle.tables.specs.Part.{part, Laid, Apart}
+use Rattle.tables.proofs.PartLaws.{part-at}
+use Rattle.join_tables.specs.Parts.{turned, Below, Holds, Within, Exchanging, Exchanged, Work, Uppers, Existing, First, Second}
+use Rattle.join_tables.proofs.HoldLaws.{holds-at, laid-within, within-then, stays-below, stays-behind}
+use Rattle.join_tables.proofs.TurnLaws.{turned-holds}
+
+-- parts to read and to write, one behind the other
+pub before : {w : List ℕ} (from m to n : ℕ) → from + m ≤ to → to + n ≤ length w → Apart w from m to n
+before from m to n le room = record { src = omega arith; dst = room; apart = inl le }
+
+pub behind : {w : List ℕ} (from m to n : ℕ) → to + n ≤ from → from + m ≤ length w → Apart w from m to n
+behind from m to n le room = record { src = room; dst = omega arith; apart = inr le }
+
+-- an extreme of whatever table stood there
+pub over-holds : {op : ℕ → ℕ → ℕ} {R : ℕ → ℕ → Type 0} (B : Bound op R) (ks : List ℕ) (set : ℕ) {w : List ℕ} {from to n : ℕ} {u w′ : List ℕ} → n ≡ cells ks
+    → Laid w to (over op ks set (part w from n)) n w′ → Holds w from u n → Holds w′ to (over op ks set u) n
+over-holds B ks set {w} {from} {to} {n} {u} e l h =
+    record { here = λ c lt. l .here c lt ∙ ap (λ (f : List ℕ). at f c) (over-same B ks set (part w from n) u (λ d hd. part-at w from n d (omega arith) ∙ h .here d (omega arith))) }
+
+module _ (ks : List ℕ) (set high : ℕ) {w : List ℕ} {low to n : ℕ} {w′ : List ℕ} (e : n ≡ cells ks)
+    (l : Laid w to (greatestOver ks set (tabulate n (λ c. above (at (part w low n) c) (at (part w high n) c)))) n w′) where
+  above-holds : {x y : List ℕ} → Holds w low x n → Holds w high y n → Holds w′ to (greatestOver ks set (tabulate (cells ks) (λ c. above (at x c) (at y c)))) n
+  above-holds {x} {y} hx hy =
+      record {
+        here = λ c lt.
+            l .here c lt
+            ∙ ap (λ (f : List ℕ). at (greatestOver ks set f) c)
+            (tabulate-same n _ _ (λ d hd. ap₂ above (part-at w low n d hd ∙ hx .here d hd) (part-at w high n d hd ∙ hy .here d hd))
+            ∙ ap (λ (i : ℕ). tabulate i (λ c. above (at x c) (at y c))) e);
+      }
+
+  -- its grades are among those of the low table, and 0
+  pub above-below : {m : ℕ} → Below w low n m → Below w′ to n m
+  above-below {m} b =
+      record {
+        grade = λ c lt.
+            rw (l .here c lt)
+            (over-bound max-bound ks set (tabulate n (λ c. above (at (part w low n) c) (at (part w high n) c))) c (m - 1) (omega arith)
+            (λ d hd q.
+            rw (at-tabulate n (λ c. above (at (part w low n) c) (at (part w high n) c)) d (omega arith))
+            (above-le (at (part w low n) d) (at (part w high n) d) (m - 1) (λ lt. rw (part-at w low n d (omega arith)) (b .grade d (omega arith))))));
+      }
+
+-- grades stay, and two parts of them are one
+pub grades-below : {w w′ : List ℕ} {lo hi a n m : ℕ} → Within w lo hi w′ → a + n ≤ lo → Below w a n m → Below w′ a n m
+grades-below {a = a} p le b = record { grade = λ c lt. rw (p .before (a + c) (omega arith)) (b .grade c lt) }
+
+pub grades-behind : {w w′ : List ℕ} {lo hi a n m : ℕ} → Within w lo hi w′ → hi ≤ a → Below w a n m → Below w′ a n m
+grades-behind {a = a} p le b = record { grade = λ c lt. rw (p .after (a + c) (omega arith)) (b .grade c lt) }
+
+pub grades-both : {w : List ℕ} {m : ℕ} (a b n : ℕ) → a + n ≡ b → Below w a n m → Below w b n m → Below w a (2 * n) m
+grades-both {w} {m} a b n e p q =
+    record { grade = λ c lt. by-order n c (λ le. let i : b + (c - n) ≡ a + c = omega arith in subst (λ (j : ℕ). at w j ≤ m - 1) i (q .grade (c - n) (omega arith))) (λ less. p .grade c less) }
+
+-- both blocks' upper limits
+module _ {w ks : List ℕ} {n : ℕ} (work : Work w ks n) where
+  pub uppers-first : Apart w (3 * n) n (4 * n) n
+  uppers-first = let r = work .room in before (3 * n) n (4 * n) n (omega arith) (omega arith)
+
+  module _ (s t : ℕ) {v : List ℕ} (a : Laid w (4 * n) (leastOver ks t (part w (3 * n) n)) n v) where
+    pub uppers-second : Apart v (3 * n) n (5 * n) n
+    uppers-second = let r = work .room in let k = a .len in before (3 * n) n (5 * n) n (omega arith) (omega arith)
+
+    pub uppers : {w′ : List ℕ} → Laid v (5 * n) (leastOver ks s (part v (3 * n) n)) n w′ → Uppers ks s t n w w′
+    uppers b =
+        record {
+          opened = λ gate m l y.
+              let u = holds-at {b = 3 * n} (omega arith) (y .highs) in
+              record {
+                begun =
+                    record {
+                      lows = stays-below (laid-within b) (omega arith) (stays-below (laid-within a) (omega arith) (y .lows));
+                      seconds = over-holds min-bound ks s (work .count) b (stays-below (laid-within a) (omega arith) u);
+                    };
+                firsts = stays-below (laid-within b) (omega arith) (over-holds min-bound ks t (work .count) a u);
+              };
+          kept = within-then (4 * n) (6 * n) (laid-within a) (laid-within b) (omega arith) (omega arith) (omega arith) (omega arith);
+        }
+
+-- whether the join exists
+pub existing : {w : List ℕ} {n : ℕ} (r : Bool) → r ≡ all n (λ c. leb (at (part w (2 * n) n) c) (max (at (part w (4 * n) n) c) (at (part w (5 * n) n) c))) → Existing n w r
+existing {w} {n} r e =
+    record {
+      answer = λ gate ks m s t l size o.
+          let x = exchangeFor gate ks m l in
+          e
+          ∙ all-same n _ _
+          (λ c h.
+          ap₂ leb (part-at w (2 * n) n c h ∙ o .begun .lows .here c h)
+          (ap₂ max (part-at w (4 * n) n c h ∙ o .firsts .here c h) (part-at w (5 * n) n c h ∙ o .begun .seconds .here c h)))
+          ∙ ap (λ (i : ℕ). all i (λ c. leb (at (x .lower) c) (max (at (uA ks s t (x .lower) (x .upper)) c) (at (uB ks s t (x .lower) (x .upper)) c)))) size;
+    }
+
+module _ (gate : Gate) {w ks : List ℕ} {m n : ℕ} (work : Work w ks n) (some : 1 ≤ m) where
+  room : 8 * n ≤ length w
+  room = work .room
+
+  -- the first block's limits
+  pub first-low : Apart w (2 * n) n (3 * n) n
+  first-low = let r = room in before (2 * n) n (3 * n) n (omega arith) (omega arith)
+
+  pub first-high : Apart w (5 * n) n (3 * n) n
+  first-high = let r = room in behind (5 * n) n (3 * n) n (omega arith) (omega arith)
+
+  module _ (t : ℕ) {v : List ℕ} (a : Laid w (3 * n) (greatestOver ks t (tabulate n (λ c. above (at (part w (2 * n) n) c) (at (part w (5 * n) n) c)))) n v) where
+    pub first-exchange : Below w (2 * n) n m → Below w (4 * n) n m → Exchanging v m (3 * n) (6 * n) n
+    first-exchange p q =
+        let r = room in
+        let k = a .len in
+        record {
+          some = some;
+          parts = before (3 * n) (2 * n) (6 * n) (2 * n) (omega arith) (omega arith);
+          grades = grades-both (3 * n) (4 * n) n (omega arith) (above-below ks t (5 * n) (work .count) a p) (grades-behind (laid-within a) (omega arith) q);
+        }
+
+    pub first : {w′ : List ℕ} → Exchanged gate v m (3 * n) (6 * n) n w′ → First gate ks m t n w w′
+    first x =
+        record {
+          limits = λ s l o.
+              x .limits ks _ (work .count)
+              (record {
+                lows = above-holds ks t (5 * n) (work .count) a (o .begun .lows) (o .begun .seconds);
+                highs = holds-at (omega arith) (stays-behind (laid-within a) (omega arith) (o .firsts));
+              });
+          begun = λ s l b.
+              record {
+                lows = stays-below (x .kept) (omega arith) (stays-below (laid-within a) (omega arith) (b .lows));
+                seconds = stays-below (x .kept) (omega arith) (stays-behind (laid-within a) (omega arith) (b .seconds));
+              };
+          kept = within-then (3 * n) (8 * n) (laid-within a) (x .kept) (omega arith) (omega arith) (omega arith) (omega arith);
+        }
+
+  -- the second block's
+  pub second-block : Below w n n m → (1 ≤ m) × Apart w n n (3 * n) n × Below w n n m
+  second-block b = let r = room in (some, before n n (3 * n) n (omega arith) (omega arith), b)
+
+  module _ {v₁ : List ℕ} (x : Laid w (3 * n) (turned gate n m (part w n n)) n v₁) where
+    pub second-low : Apart v₁ (2 * n) n (4 * n) n
+    second-low = let r = room in let k = x .len in before (2 * n) n (4 * n) n (omega arith) (omega arith)
+
+    pub second-high : Apart v₁ (3 * n) n (4 * n) n
+    second-high = let r = room in let k = x .len in before (3 * n) n (4 * n) n (omega arith) (omega arith)
+
+    module _ (s : ℕ) {v₂ : List ℕ} (a : Laid v₁ (4 * n) (greatestOver ks s (tabulate n (λ c. above (at (part v₁ (2 * n) n) c) (at (part v₁ (3 * n) n) c)))) n v₂) where
+      pub second-exchange : Below w (2 * n) n m → Below w (5 * n) n m → Exchanging v₂ m (4 * n) (6 * n) n
+      second-exchange p q =
+          let r = room in
+          let i = x .len in
+          let k = a .len in
+          record {
+            some = some;
+            parts = before (4 * n) (2 * n) (6 * n) (2 * n) (omega arith) (omega arith);
+            grades =
+                grades-both (4 * n) (5 * n) n (omega arith) (above-below ks s (3 * n) (work .count) a (grades-below (laid-within x) (omega arith) p))
+                (grades-behind (laid-within a) (omega arith) (grades-behind (laid-within x) (omega arith) q));
+          }
+
+      pub second : {w′ : List ℕ} → Exchanged gate v₂ m (4 * n) (6 * n) n w′ → Second gate ks m s n w w′
+      second y =
+          record {
+            limits = λ t l g b h.
+                y .limits ks _ (work .count)
+                (record {
+                  lows = above-holds ks s (3 * n) (work .count) a (stays-below (laid-within x) (omega arith) (b .lows)) (turned-holds gate ks m (work .count) x h);
+                  highs = holds-at (omega arith) (stays-behind (laid-within a) (omega arith) (stays-behind (laid-within x) (omega arith) (b .seconds)));
+                });
+            kept =
+                within-then (3 * n) (8 * n) (within-then (3 * n) (5 * n) (laid-within x) (laid-within a) (omega arith) (omega arith) (omega arith) (omega arith)) (y .kept) (omega arith) (omega arith) (omega arith)
+                (omega arith);
+          }

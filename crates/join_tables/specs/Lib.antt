@@ -1,0 +1,2 @@
+-- What the contracts of `join_tables` cite.
+pub mod Parts

@@ -1,0 +1,6 @@
+-- Laws of `network_run`.
+pub mod GradeLaws
+pub mod ReadLaws
+pub mod ValueLaws
+pub mod WorkLaws
+pub mod BelowLaws

@@ -1,0 +1,2 @@
+-- What the contracts of `network_run` cite.
+pub mod Grades

@@ -1,0 +1,4 @@
+-- Laws of `network_scan`.
+pub mod MarkLaws
+pub mod SoundLaws
+pub mod ZeroLaws

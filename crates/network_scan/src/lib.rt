@@ -1,0 +1,175 @@
+// Which networks are sound.
+use rules::PLACES;
+use rules::RECORD;
+use rules::kinds;
+ghost use mathlib.Core.Path.{_≡_};
+ghost use mathlib.Core.Bool.{_&&_, _||_};
+ghost use Prim.Native.Nat.{ℕ, _+_, _*_, _<_, _≤_};
+ghost use lib.Dec.{eqb, ltb};
+ghost use lib.ListN.{length};
+ghost use Rattle.rules.specs.Bytes.{pick, at, all, word, recordAt};
+ghost use Rattle.rules.specs.Cell.{card, present};
+ghost use Rattle.rules.specs.Network.{named, literalByteSound, recordSound, networkSound};
+
+const MAX_RECORDS: usize = 4096;
+
+// By a record's kind, 1 for each byte that must be zero.
+const MUST_BE_ZERO: [[u8; RECORD]; 4] = [
+    [0, 0, 1, 1, 1, 1, 1, 1, 1, 1, 1, 1, 1, 1, 1, 1],
+    [0, 0, 1, 1, 1, 1, 1, 1, 0, 0, 0, 0, 0, 0, 0, 0],
+    [0, 1, 1, 1, 0, 0, 0, 0, 1, 1, 1, 1, 1, 1, 1, 1],
+    [0, 1, 1, 1, 0, 0, 0, 0, 1, 1, 1, 1, 1, 1, 1, 1],
+];
+
+// The table's row for a kind. It is read once for a record, since a constant is laid out anew wherever
+// it is read.
+fn zero_row(kind: usize) -> [u8; RECORD]
+    requires { ⌜ kind < 4 ⌝ }
+    ensures { λ row. ⌜ ((j : ℕ) → j < 16 → at row j ≡ pick (named kind j) 0 1) ⌝ }
+{
+    MUST_BE_ZERO[kind]
+}
+
+// Whether a byte may be what it is, by its entry in the table.
+fn byte_sound(entry: u8, byte: u8) -> bool
+    ensures { λ q. ⌜ q ≡ (eqb entry 0 || eqb byte 0) ⌝ }
+{
+    if entry == 0 { true } else { byte == 0 }
+}
+
+// Whether every byte that must be zero is.
+fn bytes_sound(r: &[u8], kind: usize) -> bool
+    requires { ⌜ (length (now r) ≡ 16) × (kind < 4) ⌝ }
+    ensures { λ q. ⌜ q ≡ all 16 (λ j. named kind j || eqb (at (now (r .entry)) j) 0) ⌝ }
+{
+    let row = zero_row(kind);
+    for j in 0..RECORD {
+        if !byte_sound(row[j], r[j]) {
+            return false;
+        }
+    }
+    true
+}
+
+// A literal's byte for one value.
+fn grade_sound(card: usize, m: u8, v: usize, grade: u8) -> bool
+    ensures { λ q. ⌜ q ≡ literalByteSound card m v grade ⌝ }
+{
+    if v < card { grade < m } else { grade == 0 }
+}
+
+// A literal's bytes for all eight values.
+fn grades_sound(r: &[u8], card: usize, m: u8) -> bool
+    requires { ⌜ length (now r) ≡ 16 ⌝ }
+    ensures { λ q. ⌜ q ≡ all 8 (λ v. literalByteSound card m v (at (now (r .entry)) (8 + v))) ⌝ }
+{
+    for v in 0..PLACES {
+        if !grade_sound(card, m, v, r[8 + v]) {
+            return false;
+        }
+    }
+    true
+}
+
+// The literal's condition is there, and its bytes are grades.
+fn literal_sound(r: &[u8], ks: [u8; PLACES], m: u8) -> bool
+    requires { ⌜ length (now r) ≡ 16 ⌝ }
+    ensures { λ q. ⌜ q ≡ (present ks (at (now (r .entry)) 1) && all 8 (λ v. literalByteSound (card ks (at (now (r .entry)) 1)) m v (at (now (r .entry)) (8 + v)))) ⌝ }
+{
+    let i = r[1] as usize;
+    if 8 <= i {
+        return false;
+    }
+    let card = ks[i] as usize;
+    if card < 2 {
+        return false;
+    }
+    grades_sound(r, card, m)
+}
+
+// The number of two bytes at j, the low byte first.
+pub fn word(r: &[u8], j: usize) -> usize
+    requires { ⌜ j + 1 < length (now r) ⌝ }
+    ensures { λ n. ⌜ n ≡ word (now (r .entry)) j ⌝ }
+{
+    r[j] as usize + 256 * (r[j + 1] as usize)
+}
+
+// Both records of gate k stand before it.
+fn gate_sound(r: &[u8], k: usize) -> bool
+    requires { ⌜ length (now r) ≡ 16 ⌝ }
+    ensures { λ q. ⌜ q ≡ (ltb (word (now (r .entry)) 4) k && ltb (word (now (r .entry)) 6) k) ⌝ }
+{
+    if k <= word(r, 4) {
+        return false;
+    }
+    word(r, 6) < k
+}
+
+// Whether the sixteen bytes r are sound as record k.
+fn record_sound(r: &[u8], ks: [u8; PLACES], m: u8, k: usize) -> bool
+    requires { ⌜ length (now r) ≡ 16 ⌝ }
+    ensures { λ q. ⌜ q ≡ recordSound ks m k (now (r .entry)) ⌝ }
+{
+    let kind = r[0] as usize;
+    if 4 <= kind {
+        return false;
+    }
+    if !bytes_sound(r, kind) {
+        return false;
+    }
+    if kind == kinds::CONSTANT as usize {
+        return r[1] < m;
+    }
+    if kind == kinds::LITERAL as usize {
+        return literal_sound(r, ks, m);
+    }
+    gate_sound(r, k)
+}
+
+// The same for record k of a network.
+fn record_good(network: &[u8], ks: [u8; PLACES], m: u8, k: usize) -> bool
+    requires { ⌜ 16 * k + 16 ≤ length (now network) ⌝ }
+    ensures { λ q. ⌜ q ≡ recordSound ks m k (recordAt (now (network .entry)) k) ⌝ }
+{
+    let from = RECORD * k;
+    let to = from + RECORD;
+    record_sound(&network[from..to], ks, m, k)
+}
+
+// Whether each of the first records has its mark.
+fn all_marked(marks: &[u8; 4096], count: usize) -> bool
+    requires { ⌜ count ≤ 4096 ⌝ }
+    ensures { λ q. ⌜ q ≡ all count (λ k. eqb (at (now (marks .entry)) k) 1) ⌝ }
+{
+    for k in 0..count {
+        if marks[k] != 1 {
+            return false;
+        }
+    }
+    true
+}
+
+// Whether the network is sound over the places ks, with m grades: each good record gets a mark.
+pub fn scan(network: &[u8], ks: [u8; PLACES], m: u8) -> bool
+    ensures { λ q. ⌜ q ≡ networkSound ks m (now (network .entry)) ⌝ }
+{
+    let bytes = network.len();
+    if bytes == 0 {
+        return false;
+    }
+    if bytes % RECORD != 0 {
+        return false;
+    }
+    let count = bytes / RECORD;
+    if MAX_RECORDS < count {
+        return false;
+    }
+    let mut marks = [0u8; 4096];
+    for k in 0..count {
+        if record_good(network, ks, m, k) {
+            marks[k] = 1;
+        }
+    }
+    all_marked(&marks, count)
+}

@@ -1,0 +1,2 @@
+-- What the contracts of `panel_answers` cite.
+pub mod Answers

@@ -1,0 +1,2 @@
+-- Laws of `stage_blocks`.
+pub mod BlockLaws

@@ -1,0 +1,2 @@
+-- What the contracts of `stage_blocks` cite.
+pub mod Blocks

@@ -1,0 +1,95 @@
+// Step 5 of a stage: the tables of a join's two blocks, at the front of what is lent on, and what
+// the blocks' functions come to.
+use places::sets;
+use rules::Gate;
+use rules::PLACES;
+use tables::fill;
+use tables::moves;
+ghost use Prim.Native.Nat.{_+_, _*_, _≤_};
+ghost use Rattle.rules.specs.Cell.{cells};
+ghost use Rattle.rules.specs.Join.{exchangeFor};
+ghost use Rattle.grouping.specs.Joining.{stageAt};
+ghost use Rattle.stage_blocks.specs.Blocks.{Source, LimitsRoom, LimitsLaid, FirstRoom, FirstLaid, SecondRoom, SecondLaid, JoinedRoom, JoinedLaid};
+
+// Two tables over the places ks, moved to the places b: a stage's limits, at 8 × c.
+fn lay(w: &mut [u8], ks: [u8; PLACES], b: [u8; PLACES], low: usize, high: usize, c: usize)
+    requires { ⌜ LimitsRoom (now w) ks b c × (low + cells ks ≤ 8 * c) × (high + cells ks ≤ 8 * c) ⌝ }
+    ensures { λ _. ⌜ LimitsLaid ks b (stageAt ks (now (w .entry)) low high .limits) c (now (w .entry)) (now (w .exit)) ⌝ }
+{
+    moves::moved(w, ks, b, low, 8 * c);
+    moves::moved(w, ks, b, high, 8 * c + places::cell_count(b));
+}
+
+// The same, the limits being exchanged for min: parts 2 and 3 are then lost.
+fn lay_limits(
+    w: &mut [u8],
+    gate: Gate,
+    m: u8,
+    ks: [u8; PLACES],
+    b: [u8; PLACES],
+    low: usize,
+    high: usize,
+    c: usize,
+)
+    requires { ⌜ LimitsRoom (now w) ks b c × (1 ≤ m) × Source (now w) low (cells ks) m c × Source (now w) high (cells ks) m c ⌝ }
+    ensures { λ _. ⌜ LimitsLaid ks b (exchangeFor gate ks m (stageAt ks (now (w .entry)) low high .limits)) c (now (w .entry)) (now (w .exit)) ⌝ }
+{
+    match gate {
+        Gate::Max => lay(w, ks, b, low, high, c),
+        Gate::Min => {
+            let n = places::cell_count(ks);
+            fill::complement(w, m - 1, high, 2 * c, n);
+            fill::complement(w, m - 1, low, 3 * c, n);
+            lay(w, ks, b, 2 * c, 3 * c, c);
+        }
+    }
+}
+
+// The first block's table, from what `choose` prepared. Parts 0 and 5 stay.
+pub fn first_table(
+    w: &mut [u8],
+    gate: Gate,
+    m: u8,
+    ks: [u8; PLACES],
+    t: u8,
+    c: usize,
+) -> [u8; PLACES]
+    requires { ⌜ FirstRoom (now w) ks m t c ⌝ }
+    ensures { λ r. ⌜ FirstLaid gate m ks t c (now (w .entry)) r (now (w .exit)) ⌝ }
+{
+    let b = sets::without(ks, t);
+    join_tables::greatest_above(w, ks, t, 0, 5 * c, 6 * c, places::cell_count(ks));
+    lay_limits(w, gate, m, ks, b, 6 * c, 4 * c, c);
+    b
+}
+
+// The second block's table, given the first block's function at 8 × c, over the places a.
+pub fn second_table(
+    w: &mut [u8],
+    gate: Gate,
+    m: u8,
+    ks: [u8; PLACES],
+    a: [u8; PLACES],
+    s: u8,
+    c: usize,
+) -> [u8; PLACES]
+    requires { ⌜ SecondRoom (now w) ks a m s c ⌝ }
+    ensures { λ r. ⌜ SecondLaid gate m ks a s c (now (w .entry)) r (now (w .exit)) ⌝ }
+{
+    let n = places::cell_count(ks);
+    let b = sets::without(ks, s);
+    moves::moved(w, a, ks, 8 * c, 6 * c);
+    join_tables::exchange_block(w, gate, m, 6 * c, 7 * c, n);
+    join_tables::greatest_above(w, ks, s, 0, 7 * c, c, n);
+    lay_limits(w, gate, m, ks, b, c, 5 * c, c);
+    b
+}
+
+// The join's function, from the first block's in part 6 and the second's at 8 × c, over the places b.
+pub fn joined(w: &mut [u8], gate: Gate, ks: [u8; PLACES], b: [u8; PLACES], c: usize)
+    requires { ⌜ JoinedRoom (now w) ks b c ⌝ }
+    ensures { λ _. ⌜ JoinedLaid gate ks b c (now (w .entry)) (now (w .exit)) ⌝ }
+{
+    moves::moved(w, b, ks, 8 * c, 7 * c);
+    fill::combine(w, gate, 6 * c, 7 * c, 0, places::cell_count(ks));
+}

@@ -1,0 +1,3 @@
+-- Laws of `stage_choice`.
+pub mod SpaceLaws
+pub mod ChoiceLaws

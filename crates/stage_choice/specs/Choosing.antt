@@ -1,0 +1,72 @@
+-- 01, Stages, steps 3 and 4, in a stage's work buffer.
+use Prim.Native.Nat.{ℕ, _*_, _≤_}
+use mathlib.Core.Path.{_≡_}
+use mathlib.Core.List.{List}
+use lib.ListN.{length}
+use Rattle.rules.specs.declared.Gate.the-variants.{Min, Max}
+use Rattle.rules.specs.Stage as rules
+use Rattle.rules.specs.Stage.{split, joining, chosen}
+use Rattle.tables.specs.Part.{part}
+use Rattle.join_tables.specs.Parts.{turned, Below}
+use Rattle.grouping.specs.declared.Found.{Found}
+use Rattle.grouping.specs.declared.Found.the-variants.{Sets as Some}
+use Rattle.grouping.specs.Joining.{stageAt}
+use Rattle.grouping.specs.Growing.{Kept, foundSets}
+use Rattle.stage_choice.specs.declared.Choice.{Choice}
+use Rattle.stage_choice.specs.declared.Choice.the-variants.{Split, Join}
+use Rattle.stage_drops.specs.Working.{ForBoth}
+
+abbrev pub choiceOf : Choice → rules.Choice
+choiceOf Split = split
+choiceOf (Join gate of) = joining gate (of .s) (of .t)
+
+-- eight parts of c bytes, each with a table of n cells
+pub record Spaced (w : List ℕ) (c n : ℕ) : Type 0 where
+  pub own : n ≤ c
+  pub room : 8 * c ≤ length w
+
+-- limits below m grades in the first two
+pub record Exchangeable (w : List ℕ) (m c n : ℕ) : Type 0 where
+  pub spaced : Spaced w c n
+  pub some : 1 ≤ m
+  pub lows : Below w 0 n m
+  pub highs : Below w c n m
+
+-- the limits as a min join wants them, in parts 2 and 3
+pub record Exchanged (m c n : ℕ) (w w′ : List ℕ) : Type 0 where
+  pub lows : part w′ (2 * c) n ≡ turned Min n m (part w c n)
+  pub highs : part w′ (3 * c) n ≡ turned Min n m (part w 0 n)
+  pub kept : Kept w (2 * c) (3 * c) n w′
+
+-- the grouping that a choice takes its sets from
+abbrev pub Taken : Found → Found → Choice → Type 0
+Taken a b Split = Unit {0}
+Taken a b (Join Max of) = a ≡ Some of
+Taken a b (Join Min of) = b ≡ Some of
+
+-- the choice between the grouping for max and the one for min
+pub record Decided (a b : Found) (r : Choice) : Type 0 where
+  pub is : choiceOf r ≡ rules.choose (foundSets a) (foundSets b)
+  pub taken : Taken a b r
+
+-- the min join's tables in the places of the max join's
+pub record MinSettled (c n : ℕ) (w w′ : List ℕ) : Type 0 where
+  pub lows : part w′ 0 n ≡ part w (2 * c) n
+  pub firsts : part w′ (4 * c) n ≡ part w (6 * c) n
+  pub seconds : part w′ (5 * c) n ≡ part w (7 * c) n
+  pub len : length w′ ≡ length w
+
+abbrev pub Settled : ℕ → ℕ → List ℕ → Choice → List ℕ → Type 0
+Settled c n w Split w′ = w′ ≡ w
+Settled c n w (Join Max of) w′ = w′ ≡ w
+Settled c n w (Join Min of) w′ = MinSettled c n w w′
+
+-- a split finds the limits as they were; a join finds what its blocks are made from
+abbrev pub Prepared : ℕ → List ℕ → ℕ → List ℕ → Choice → List ℕ → Type 0
+Prepared m ks c w Split w′ = stageAt ks w′ 0 c ≡ stageAt ks w 0 c
+Prepared m ks c w (Join gate of) w′ = ForBoth gate m (stageAt ks w 0 c) (of .s) (of .t) c w′
+
+pub record Chosen (m : ℕ) (ks : List ℕ) (c : ℕ) (w : List ℕ) (r : Choice) (w′ : List ℕ) : Type 0 where
+  pub is : choiceOf r ≡ chosen m (stageAt ks w 0 c)
+  pub tables : Prepared m ks c w r w′
+  pub len : length w′ ≡ length w

@@ -1,0 +1,2 @@
+-- What the contracts of `stage_choice` cite.
+pub mod Choosing

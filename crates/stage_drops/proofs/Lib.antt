@@ -1,0 +1,3 @@
+-- Laws of `stage_drops`.
+pub mod DropLaws
+pub mod CanDropLaws

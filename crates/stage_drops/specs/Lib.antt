@@ -1,0 +1,2 @@
+-- What the contracts of `stage_drops` cite.
+pub mod Working

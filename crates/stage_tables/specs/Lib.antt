@@ -1,4 +1,0 @@
--- What the contracts of a stage's tables cite.
-pub mod Blocks
-pub mod Choosing
-pub mod Working

@@ -1,0 +1,3 @@
+-- Laws of `table_records`.
+pub mod ZeroLaws
+pub mod SeenLaws

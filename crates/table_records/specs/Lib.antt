@@ -1,0 +1,2 @@
+-- What the contracts of `table_records` cite.
+pub mod Records
