@@ -16,7 +16,7 @@ use Rattle.panel_answers.specs.Answers.{lentShape, lent, callNumber, resultNumb
 use Rattle.panel.specs.Checks.{FirstOutside, Checks}
 use Rattle.laws.proofs.RefusalLaws.{small}
 use Rattle.laws.proofs.ByteLaws.{past-same}
-use Rattle.panel.proofs.ShapeLaws.{Made, ten-lent, lent-refused}
+use Rattle.panel_answers.proofs.ShapeLaws.{Made, ten-lent, lent-refused}
 use Rattle.panel.proofs.OutsideLaws.{Outside, outside-is}
 
 -- the number of an answer is that of its verdict

@@ -18,7 +18,7 @@ use Rattle.compile.specs.Compiling.{compileAnswer, compileRows, networkAfter, K
 use Rattle.compile.proofs.CountLaws.{few-records}
 use Rattle.panel_answers.specs.Answers.{lentShape, lent, callNumber, compileNumber, FewRecords}
 use Rattle.panel.specs.Compiles.{Compiles}
-use Rattle.panel.proofs.ShapeLaws.{Made, ten-lent, lent-refused}
+use Rattle.panel_answers.proofs.ShapeLaws.{Made, ten-lent, lent-refused}
 
 -- the number of a verdict is that of the answer to it
 verdict-number : (v : Verdict (List Record)) → compileNumber (compileAnswer v) ≡ callNumber v length

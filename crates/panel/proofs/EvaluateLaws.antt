@@ -14,7 +14,7 @@ use Rattle.network.specs.declared.Evaluation.the-variants.{Grade, Refused}
 use Rattle.network.specs.Evaluating.{Evaluated, GradeAt}
 use Rattle.panel.specs.Evaluates.{evaluateRows, Evaluates}
 use Rattle.panel_answers.specs.Answers.{answerNumber, Answered}
-use Rattle.panel.proofs.ShapeLaws.{Made, made-lent, lent-refused}
+use Rattle.panel_answers.proofs.ShapeLaws.{Made, made-lent, lent-refused}
 
 -- an answer of 256 or more is a refusal
 keeps : (work after : List ℕ) (e : Evaluation) (r : ℕ) → ((q : Refusal) → e ≡ Refused q → after ≡ work) → ((grade : ℕ) → e ≡ Grade grade → r < 256) → 256 ≤ r → after ≡ work

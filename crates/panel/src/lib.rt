@@ -2,18 +2,14 @@
 // cardinalities, the number of grades.
 ghost use Rattle.rules.specs.declared.Gate.the-variants.{Min, Max};
 ghost use Rattle.panel.specs.Evaluates.{Evaluates};
-ghost use Rattle.panel.specs.Reads.{Reads};
-ghost use Rattle.panel.specs.Joins.{JoinsFirst, JoinsSecond};
+ghost use Rattle.panel_reads.specs.Reads.{Reads};
+ghost use Rattle.panel_joins.specs.Joins.{JoinsFirst, JoinsSecond};
 ghost use Rattle.panel.specs.Compiles.{Compiles};
 ghost use Rattle.panel.specs.Checks.{Checks};
 use network::Evaluation;
 use rules::Gate;
 use shape::Shape;
 use shape::ShapeAnswer;
-use table_file::TableAnswer;
-
-mod joins;
-mod reading;
 
 // The grade of a network at a cell. The work buffer has a byte for each record.
 #[no_mangle]
@@ -38,16 +34,7 @@ pub extern "C" fn grades_read(
 ) -> u32
     ensures { λ r. ⌜ Reads (now (file .entry)) (now (shape .entry)) (now (lower .entry)) (now (upper .entry)) r (now (shape .exit)) (now (lower .exit)) (now (upper .exit)) ⌝ }
 {
-    if shape.len() < Shape::BYTES {
-        return reading::no_room(file);
-    }
-    match table_file::read_table(file, lower, upper) {
-        TableAnswer::Refused(refusal) => panel_answers::of_refusal(refusal),
-        TableAnswer::Table(table) => {
-            reading::put_shape(table, shape);
-            0
-        }
-    }
+    panel_reads::read(file, shape, lower, upper)
 }
 
 // The limits of a max join's first block.
@@ -63,7 +50,7 @@ pub extern "C" fn grades_join_max_first(
 ) -> u32
     ensures { λ r. ⌜ JoinsFirst Max (now (shape .entry)) (now (lower .entry)) (now (upper .entry)) s t (now («out_lower» .entry)) (now («out_upper» .entry)) r (now («out_lower» .exit)) (now («out_upper» .exit)) ⌝ }
 {
-    joins::first(Gate::Max, shape, lower, upper, s, t, out_lower, out_upper)
+    panel_joins::first(Gate::Max, shape, lower, upper, s, t, out_lower, out_upper)
 }
 
 // The limits of a min join's first block.
@@ -79,7 +66,7 @@ pub extern "C" fn grades_join_min_first(
 ) -> u32
     ensures { λ r. ⌜ JoinsFirst Min (now (shape .entry)) (now (lower .entry)) (now (upper .entry)) s t (now («out_lower» .entry)) (now («out_upper» .entry)) r (now («out_lower» .exit)) (now («out_upper» .exit)) ⌝ }
 {
-    joins::first(Gate::Min, shape, lower, upper, s, t, out_lower, out_upper)
+    panel_joins::first(Gate::Min, shape, lower, upper, s, t, out_lower, out_upper)
 }
 
 // The limits of a max join's second block, given the first.
@@ -96,7 +83,7 @@ pub extern "C" fn grades_join_max_second(
 ) -> u32
     ensures { λ r. ⌜ JoinsSecond Max (now (shape .entry)) (now (lower .entry)) (now (upper .entry)) s t (now (g .entry)) (now («out_lower» .entry)) (now («out_upper» .entry)) r (now («out_lower» .exit)) (now («out_upper» .exit)) ⌝ }
 {
-    joins::second(
+    panel_joins::second(
         Gate::Max,
         shape,
         lower,
@@ -123,7 +110,7 @@ pub extern "C" fn grades_join_min_second(
 ) -> u32
     ensures { λ r. ⌜ JoinsSecond Min (now (shape .entry)) (now (lower .entry)) (now (upper .entry)) s t (now (g .entry)) (now («out_lower» .entry)) (now («out_upper» .entry)) r (now («out_lower» .exit)) (now («out_upper» .exit)) ⌝ }
 {
-    joins::second(
+    panel_joins::second(
         Gate::Min,
         shape,
         lower,

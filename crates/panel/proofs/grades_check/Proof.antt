@@ -1,7 +1,7 @@
 -- `panel::grades_check` meets its contract.
 use borrow.Author.Needs.{needs}
 use Rattle.panel.proofs.CheckLaws.{checks, check-refuses, few}
-use Rattle.panel.proofs.ShapeLaws.{made}
+use Rattle.panel_answers.proofs.ShapeLaws.{made}
 use Rattle.panel.proofs.grades_check.Statement.{statement}
 use Rattle.panel.proofs.grades_check.Tie as tie
 use Rattle.shape.proofs.ShapeLaws.{makes-accepted, makes-refused}

@@ -1,7 +1,7 @@
 -- `panel::grades_compile` meets its contract.
 use borrow.Author.Needs.{needs}
 use Rattle.panel.proofs.CompileLaws.{compiles, compile-refuses, few}
-use Rattle.panel.proofs.ShapeLaws.{made}
+use Rattle.panel_answers.proofs.ShapeLaws.{made}
 use Rattle.panel.proofs.grades_compile.Statement.{statement}
 use Rattle.panel.proofs.grades_compile.Tie as tie
 use Rattle.shape.proofs.ShapeLaws.{makes-accepted, makes-refused}

@@ -1,6 +1,6 @@
 -- `panel::grades_evaluate` meets its contract.
 use borrow.Author.Needs.{needs}
-use Rattle.panel.proofs.ShapeLaws.{made}
+use Rattle.panel_answers.proofs.ShapeLaws.{made}
 use Rattle.panel.proofs.EvaluateLaws.{evaluates, refuses}
 use Rattle.panel.proofs.grades_evaluate.Statement.{statement}
 use Rattle.panel.proofs.grades_evaluate.Tie as tie

@@ -21,7 +21,7 @@ use Rattle.tables.specs.Part.{part}
 use Rattle.table_file.specs.Reading.{lowerAfter, upperAfter, Read}
 use Rattle.table_file.proofs.ReadLaws.{was-table, was-refused}
 use Rattle.panel_answers.specs.Answers.{callNumber}
-use Rattle.panel.specs.Reads.{readVerdict, noRoom, shapeAfter, Reads}
+use Rattle.panel_reads.specs.Reads.{readVerdict, noRoom, shapeAfter, Reads}
 
 -- a verdict that a further row never stops, or always
 passes-on : (v : Verdict Seen) → andThen v (λ s. accepted s) ≡ v

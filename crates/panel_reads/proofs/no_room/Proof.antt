@@ -1,10 +1,10 @@
--- `panel::reading::no_room` meets its contract.
+-- `panel_reads::no_room` meets its contract.
 use mathlib.Core.Path.{sym, ap, _∙_}
 use borrow.Author.Needs.{needs}
 use Rattle.table_records.specs.Records.{verdictOf}
-use Rattle.panel.proofs.ReadLaws.{short-number}
-use Rattle.panel.proofs.reading.no_room.Statement.{statement}
-use Rattle.panel.proofs.reading.no_room.Tie as tie
+use Rattle.panel_reads.proofs.ReadLaws.{short-number}
+use Rattle.panel_reads.proofs.no_room.Statement.{statement}
+use Rattle.panel_reads.proofs.no_room.Tie as tie
 
 judge-requires : tie.Need-judge-requires
 judge-requires c κs = search needs

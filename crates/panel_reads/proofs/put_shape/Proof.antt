@@ -1,9 +1,9 @@
--- `panel::reading::put_shape` meets its contract.
+-- `panel_reads::put_shape` meets its contract.
 use mathlib.Core.Path.{_∙_}
 use borrow.Author.Needs.{needs}
-use Rattle.panel.proofs.ReadLaws.{ten-bytes}
-use Rattle.panel.proofs.reading.put_shape.Statement.{statement}
-use Rattle.panel.proofs.reading.put_shape.Tie as tie
+use Rattle.panel_reads.proofs.ReadLaws.{ten-bytes}
+use Rattle.panel_reads.proofs.put_shape.Statement.{statement}
+use Rattle.panel_reads.proofs.put_shape.Tie as tie
 
 to-bytes-requires : tie.Need-to-bytes-requires
 to-bytes-requires c κs = search needs

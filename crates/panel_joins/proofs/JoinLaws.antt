@@ -20,9 +20,9 @@ use Rattle.join.specs.declared.JoinAnswer.{JoinAnswer}
 use Rattle.join.specs.declared.JoinAnswer.the-variants as answers
 use Rattle.join.specs.Calls.{joinAnswer, lowerAfter, upperAfter, Offered, firstLengths, firstVerdict, JoinFirst, secondLengths, secondVerdict, JoinSecond}
 use Rattle.panel_answers.specs.Answers.{lentShape, lent, callNumber, joinNumber}
-use Rattle.panel.specs.Joins.{Joins, Joined, JoinsFirst, JoinsSecond}
+use Rattle.panel_joins.specs.Joins.{Joins, Joined, JoinsFirst, JoinsSecond}
 use Rattle.laws.proofs.RefusalLaws.{only-no-join}
-use Rattle.panel.proofs.ShapeLaws.{Made, FirstFour, ten-lent, unsound, lent-refused}
+use Rattle.panel_answers.proofs.ShapeLaws.{Made, FirstFour, ten-lent, unsound, lent-refused}
 
 -- the number of a verdict is that of the answer to it
 verdict-number : (v : Verdict Limits) → joinNumber (joinAnswer v) ≡ callNumber v (λ l. 0)

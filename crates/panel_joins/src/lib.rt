@@ -1,5 +1,5 @@
 // The join calls, by either gate.
-ghost use Rattle.panel.specs.Joins.{JoinsFirst, JoinsSecond};
+ghost use Rattle.panel_joins.specs.Joins.{JoinsFirst, JoinsSecond};
 use rules::Gate;
 use shape::Shape;
 use shape::ShapeAnswer;

@@ -1,8 +1,8 @@
--- `panel::grades_read` meets its contract.
+-- `panel_reads::read` meets its contract.
 use borrow.Author.Needs.{needs}
-use Rattle.panel.proofs.ReadLaws.{read-short, read-refuses, reads}
-use Rattle.panel.proofs.grades_read.Statement.{statement}
-use Rattle.panel.proofs.grades_read.Tie as tie
+use Rattle.panel_reads.proofs.ReadLaws.{read-short, read-refuses, reads}
+use Rattle.panel_reads.proofs.read.Statement.{statement}
+use Rattle.panel_reads.proofs.read.Tie as tie
 
 no-room-requires : tie.Need-no-room-requires
 no-room-requires c κs = search needs
@@ -52,8 +52,8 @@ returns-3 c =
     let a = c .before .before .before .before .before .before .before .before .before .before .before .before .before .before .before .before .before .before .before .args in
     reads (a .file .now) (a .shape .now) (a .lower .now) (a .upper .now) (c .before .before .before .before .before .before .before .before .before .before .before .before .before .before .if1 .left) _ _ _ _ _ (c .before .before .before .before .before .table .given .1) (c .before .before .before .before .before .before .before .before .before .before .before .read-table .ensures) (c .before .before .put-shape .ensures)
 
-pub grades-read-spec : {M : Type 1} → statement M
-grades-read-spec =
+pub read-spec : {M : Type 1} → statement M
+read-spec =
     tie.close
     (tie.spec
     no-room-requires

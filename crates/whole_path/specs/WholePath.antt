@@ -11,10 +11,10 @@ use Rattle.rules.specs.TableFile.{Seen, judgeFile, fileLimits}
 use Rattle.rules.specs.CompileCall.{mostRecords}
 use Rattle.rules.specs.Demands.{Between}
 use Rattle.panel_answers.specs.Answers.{lentCells}
-use Rattle.panel.specs.Reads.{Reads}
+use Rattle.panel_reads.specs.Reads.{Reads}
 use Rattle.panel.specs.Compiles.{Compiles}
 use Rattle.panel.specs.Checks.{Checks}
 use Rattle.panel.specs.Evaluates.{Evaluates}
 
 -- what reading has written: ten bytes of shape and the limits; and what compiling these has: n records at the front of the network buffer
 module _ (file shape lower upper : List ℕ) (n : ℕ) (network : List ℕ) where

@@ -1,9 +1,9 @@
--- `panel::joins::first` meets its contract.
+-- `panel_joins::first` meets its contract.
 use borrow.Author.Needs.{needs}
-use Rattle.panel.proofs.JoinLaws.{first-joins, first-refuses}
-use Rattle.panel.proofs.ShapeLaws.{made}
-use Rattle.panel.proofs.joins.first.Statement.{statement}
-use Rattle.panel.proofs.joins.first.Tie as tie
+use Rattle.panel_joins.proofs.JoinLaws.{first-joins, first-refuses}
+use Rattle.panel_answers.proofs.ShapeLaws.{made}
+use Rattle.panel_joins.proofs.first.Statement.{statement}
+use Rattle.panel_joins.proofs.first.Tie as tie
 use Rattle.shape.proofs.ShapeLaws.{makes-accepted, makes-refused}
 
 from-bytes-requires : tie.Need-from-bytes-requires

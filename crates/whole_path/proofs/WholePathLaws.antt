@@ -32,12 +32,12 @@ use Rattle.network.specs.Checking.{checkRows}
 use Rattle.compile.specs.Compiling.{compileRows}
 use Rattle.compile.proofs.RowLaws.{limits-row}
 use Rattle.panel_answers.specs.Answers.{lentShape, lentCells, lent, callNumber, answerNumber}
-use Rattle.panel.specs.Reads.{readVerdict, shapeAfter, Reads}
+use Rattle.panel_reads.specs.Reads.{readVerdict, shapeAfter, Reads}
 use Rattle.panel.specs.Compiles.{Compiles}
 use Rattle.panel.specs.Checks.{Checks}
 use Rattle.panel.specs.Evaluates.{Evaluates, evaluateRows}
-use Rattle.panel.specs.WholePath.{Followed, WholePath}
-use Rattle.panel.proofs.ShapeLaws.{ten-lent}
+use Rattle.whole_path.specs.WholePath.{Followed, WholePath}
+use Rattle.panel_answers.proofs.ShapeLaws.{ten-lent}
 
 -- a call whose number is no refusal's was accepted
 called : {A : Type 0} (v : Verdict A) (number : A → ℕ) → callNumber v number < 65536 → (x : A) × (v ≡ accepted x)

@@ -1,9 +1,9 @@
--- `panel::joins::second` meets its contract.
+-- `panel_joins::second` meets its contract.
 use borrow.Author.Needs.{needs}
-use Rattle.panel.proofs.JoinLaws.{second-joins, second-refuses}
-use Rattle.panel.proofs.ShapeLaws.{made}
-use Rattle.panel.proofs.joins.second.Statement.{statement}
-use Rattle.panel.proofs.joins.second.Tie as tie
+use Rattle.panel_joins.proofs.JoinLaws.{second-joins, second-refuses}
+use Rattle.panel_answers.proofs.ShapeLaws.{made}
+use Rattle.panel_joins.proofs.second.Statement.{statement}
+use Rattle.panel_joins.proofs.second.Tie as tie
 use Rattle.shape.proofs.ShapeLaws.{makes-accepted, makes-refused}
 
 from-bytes-requires : tie.Need-from-bytes-requires

@@ -1,0 +1,2 @@
+-- Laws of `panel_answers`.
+pub mod ShapeLaws

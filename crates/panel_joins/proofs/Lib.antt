@@ -1,0 +1,2 @@
+-- Laws of `panel_joins`.
+pub mod JoinLaws

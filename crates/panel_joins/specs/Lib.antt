@@ -1,0 +1,2 @@
+-- What the contracts of `panel_joins` cite.
+pub mod Joins

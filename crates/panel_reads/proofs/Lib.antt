@@ -1,0 +1,2 @@
+-- Laws of `panel_reads`.
+pub mod ReadLaws

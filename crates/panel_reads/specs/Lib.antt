@@ -1,0 +1,2 @@
+-- What the contracts of `panel_reads` cite.
+pub mod Reads

@@ -1,0 +1,2 @@
+-- Its proof.
+pub mod WholePathLaws

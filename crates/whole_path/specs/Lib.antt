@@ -1,0 +1,2 @@
+-- The theorem from a table file to a grade.
+pub mod WholePath
