@@ -1,27 +1,19 @@
 // What C programs call. Each shape that is lent is ten bytes: the number of conditions, the eight
 // cardinalities, the number of grades.
 ghost use Rattle.rules.specs.declared.Gate.the-variants.{Min, Max};
-ghost use Rattle.panel.specs.Evaluates.{Evaluates};
+ghost use Rattle.panel_networks.specs.Evaluates.{Evaluates};
 ghost use Rattle.panel_reads.specs.Reads.{Reads};
 ghost use Rattle.panel_joins.specs.Joins.{JoinsFirst, JoinsSecond};
-ghost use Rattle.panel.specs.Compiles.{Compiles};
-ghost use Rattle.panel.specs.Checks.{Checks};
-use network::Evaluation;
+ghost use Rattle.panel_networks.specs.Compiles.{Compiles};
+ghost use Rattle.panel_networks.specs.Checks.{Checks};
 use rules::Gate;
-use shape::Shape;
-use shape::ShapeAnswer;
 
 // The grade of a network at a cell. The work buffer has a byte for each record.
 #[no_mangle]
 pub extern "C" fn grades_evaluate(network: &[u8], shape: &[u8], work: &mut [u8], cell: u32) -> u32
     ensures { λ r. ⌜ Evaluates (now (network .entry)) (now (shape .entry)) cell (now (work .entry)) (now (work .exit)) r ⌝ }
 {
-    match Shape::from_bytes(shape) {
-        ShapeAnswer::Accepted(shape) => {
-            panel_answers::of_evaluation(network::evaluate(network, shape, work, cell as usize))
-        }
-        ShapeAnswer::Refused(refusal) => panel_answers::of_evaluation(Evaluation::Refused(refusal)),
-    }
+    panel_networks::evaluate(network, shape, work, cell)
 }
 
 // The table that a file holds: its shape's ten bytes, and its limits.
@@ -135,12 +127,7 @@ pub extern "C" fn grades_compile(
 ) -> u32
     ensures { λ r. ⌜ Compiles (now (shape .entry)) (now (lower .entry)) (now (upper .entry)) (now (work .entry)) (now (network .entry)) r (now (work .exit)) (now (network .exit)) ⌝ }
 {
-    match Shape::from_bytes(shape) {
-        ShapeAnswer::Refused(refusal) => panel_answers::of_refusal(refusal),
-        ShapeAnswer::Accepted(shape) => {
-            panel_answers::of_compile(compile::compile(shape, lower, upper, work, network))
-        }
-    }
+    panel_networks::compile(shape, lower, upper, work, network)
 }
 
 // Whether a network keeps within a table's limits: 0, or a number for the first cell outside and
@@ -155,10 +142,5 @@ pub extern "C" fn grades_check(
 ) -> u32
     ensures { λ r. ⌜ Checks (now (network .entry)) (now (shape .entry)) (now (lower .entry)) (now (upper .entry)) (now (work .entry)) r (now (work .exit)) ⌝ }
 {
-    match Shape::from_bytes(shape) {
-        ShapeAnswer::Refused(refusal) => panel_answers::of_refusal(refusal),
-        ShapeAnswer::Accepted(shape) => {
-            panel_answers::of_check(network::check(network, shape, lower, upper, work))
-        }
-    }
+    panel_networks::check(network, shape, lower, upper, work)
 }

@@ -33,9 +33,9 @@ use Rattle.compile.specs.Compiling.{compileRows}
 use Rattle.compile.proofs.RowLaws.{limits-row}
 use Rattle.panel_answers.specs.Answers.{lentShape, lentCells, lent, callNumber, answerNumber}
 use Rattle.panel_reads.specs.Reads.{readVerdict, shapeAfter, Reads}
-use Rattle.panel.specs.Compiles.{Compiles}
-use Rattle.panel.specs.Checks.{Checks}
-use Rattle.panel.specs.Evaluates.{Evaluates, evaluateRows}
+use Rattle.panel_networks.specs.Compiles.{Compiles}
+use Rattle.panel_networks.specs.Checks.{Checks}
+use Rattle.panel_networks.specs.Evaluates.{Evaluates, evaluateRows}
 use Rattle.whole_path.specs.WholePath.{Followed, WholePath}
 use Rattle.panel_answers.proofs.ShapeLaws.{ten-lent}
 

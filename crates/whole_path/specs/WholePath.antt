@@ -12,9 +12,9 @@ use Rattle.rules.specs.CompileCall.{mostRecords}
 use Rattle.rules.specs.Demands.{Between}
 use Rattle.panel_answers.specs.Answers.{lentCells}
 use Rattle.panel_reads.specs.Reads.{Reads}
-use Rattle.panel.specs.Compiles.{Compiles}
-use Rattle.panel.specs.Checks.{Checks}
-use Rattle.panel.specs.Evaluates.{Evaluates}
+use Rattle.panel_networks.specs.Compiles.{Compiles}
+use Rattle.panel_networks.specs.Checks.{Checks}
+use Rattle.panel_networks.specs.Evaluates.{Evaluates}
 
 -- what reading has written: ten bytes of shape and the limits; and what compiling these has: n records at the front of the network buffer
 module _ (file shape lower upper : List ℕ) (n : ℕ) (network : List ℕ) where

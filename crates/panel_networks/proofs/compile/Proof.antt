@@ -1,9 +1,9 @@
--- `panel::grades_compile` meets its contract.
+-- `panel_networks::compile` meets its contract.
 use borrow.Author.Needs.{needs}
-use Rattle.panel.proofs.CompileLaws.{compiles, compile-refuses, few}
+use Rattle.panel_networks.proofs.CompileLaws.{compiles, compile-refuses, few}
 use Rattle.panel_answers.proofs.ShapeLaws.{made}
-use Rattle.panel.proofs.grades_compile.Statement.{statement}
-use Rattle.panel.proofs.grades_compile.Tie as tie
+use Rattle.panel_networks.proofs.compile.Statement.{statement}
+use Rattle.panel_networks.proofs.compile.Tie as tie
 use Rattle.shape.proofs.ShapeLaws.{makes-accepted, makes-refused}
 
 from-bytes-requires : tie.Need-from-bytes-requires
@@ -41,8 +41,8 @@ returns-2 c =
     let at-shape = c .before .before .before .before .before .before .before .before .before in
     compiles (a .shape .now) (a .lower .now) (a .upper .now) (a .work .now) (a .network .now) (c .of-compile .result) _ _ _ _ (made (a .shape .now) (makes-accepted (at-shape .before .before .from-bytes .ensures) (at-shape .shape .given .1))) (c .before .before .before .before .before .compile .ensures) (c .of-compile .ensures)
 
-pub grades-compile-spec : {M : Type 1} → statement M
-grades-compile-spec =
+pub compile-spec : {M : Type 1} → statement M
+compile-spec =
     tie.close
     (tie.spec
     from-bytes-requires

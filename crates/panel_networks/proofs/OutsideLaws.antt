@@ -23,7 +23,7 @@ use Rattle.network.specs.Checking.{checkRows}
 use Rattle.network_run.proofs.BelowLaws.{evaluate-below}
 use Rattle.network.proofs.CallLaws.{roomTest}
 use Rattle.network.proofs.CheckLaws.{cellWithin}
-use Rattle.panel.specs.Checks.{FirstOutside}
+use Rattle.panel_networks.specs.Checks.{FirstOutside}
 
 module _ (ks : List ℕ) (l : Limits) (net : List ℕ) where
   -- of n cells from c on, d is the first outside

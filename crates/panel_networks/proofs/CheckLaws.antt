@@ -13,11 +13,11 @@ use Rattle.network.specs.declared.CheckAnswer.{CheckAnswer}
 use Rattle.network.specs.declared.CheckAnswer.the-variants as answers
 use Rattle.network.specs.Checking.{checkVerdict, checkRows, Checked}
 use Rattle.panel_answers.specs.Answers.{lentShape, lent, callNumber, resultNumber, checkNumber, FewCells}
-use Rattle.panel.specs.Checks.{FirstOutside, Checks}
+use Rattle.panel_networks.specs.Checks.{FirstOutside, Checks}
 use Rattle.laws.proofs.RefusalLaws.{small}
 use Rattle.laws.proofs.ByteLaws.{past-same}
 use Rattle.panel_answers.proofs.ShapeLaws.{Made, ten-lent, lent-refused}
-use Rattle.panel.proofs.OutsideLaws.{Outside, outside-is}
+use Rattle.panel_networks.proofs.OutsideLaws.{Outside, outside-is}
 
 -- the number of an answer is that of its verdict
 verdict-number : (a : CheckAnswer) → checkNumber a ≡ callNumber (checkVerdict a) resultNumber

@@ -12,7 +12,7 @@ use Rattle.shape.specs.Shapes.{shapeOfBytes}
 use Rattle.network.specs.declared.Evaluation.{Evaluation}
 use Rattle.network.specs.declared.Evaluation.the-variants.{Grade, Refused}
 use Rattle.network.specs.Evaluating.{Evaluated, GradeAt}
-use Rattle.panel.specs.Evaluates.{evaluateRows, Evaluates}
+use Rattle.panel_networks.specs.Evaluates.{evaluateRows, Evaluates}
 use Rattle.panel_answers.specs.Answers.{answerNumber, Answered}
 use Rattle.panel_answers.proofs.ShapeLaws.{Made, made-lent, lent-refused}
 

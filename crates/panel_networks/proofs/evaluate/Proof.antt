@@ -1,9 +1,9 @@
--- `panel::grades_evaluate` meets its contract.
+-- `panel_networks::evaluate` meets its contract.
 use borrow.Author.Needs.{needs}
 use Rattle.panel_answers.proofs.ShapeLaws.{made}
-use Rattle.panel.proofs.EvaluateLaws.{evaluates, refuses}
-use Rattle.panel.proofs.grades_evaluate.Statement.{statement}
-use Rattle.panel.proofs.grades_evaluate.Tie as tie
+use Rattle.panel_networks.proofs.EvaluateLaws.{evaluates, refuses}
+use Rattle.panel_networks.proofs.evaluate.Statement.{statement}
+use Rattle.panel_networks.proofs.evaluate.Tie as tie
 use Rattle.shape.proofs.ShapeLaws.{makes-accepted, makes-refused}
 
 from-bytes-requires : tie.Need-from-bytes-requires
@@ -39,8 +39,8 @@ returns-2 c =
     let at-refusal = c .before .before in
     refuses (a .network .now) (a .shape .now) (a .cell) (a .work .now) _ _ (makes-refused (at-refusal .before .before .from-bytes .ensures) (at-refusal .refusal .given .1)) (c .of-evaluation2 .ensures)
 
-pub grades-evaluate-spec : {M : Type 1} → statement M
-grades-evaluate-spec =
+pub evaluate-spec : {M : Type 1} → statement M
+evaluate-spec =
     tie.close
     (tie.spec
     from-bytes-requires

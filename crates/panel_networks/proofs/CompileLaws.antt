@@ -17,7 +17,7 @@ use Rattle.compile.specs.Compiling as compiling
 use Rattle.compile.specs.Compiling.{compileAnswer, compileRows, networkAfter, KeepsTable}
 use Rattle.compile.proofs.CountLaws.{few-records}
 use Rattle.panel_answers.specs.Answers.{lentShape, lent, callNumber, compileNumber, FewRecords}
-use Rattle.panel.specs.Compiles.{Compiles}
+use Rattle.panel_networks.specs.Compiles.{Compiles}
 use Rattle.panel_answers.proofs.ShapeLaws.{Made, ten-lent, lent-refused}
 
 -- the number of a verdict is that of the answer to it

@@ -1,9 +1,9 @@
--- `panel::grades_check` meets its contract.
+-- `panel_networks::check` meets its contract.
 use borrow.Author.Needs.{needs}
-use Rattle.panel.proofs.CheckLaws.{checks, check-refuses, few}
+use Rattle.panel_networks.proofs.CheckLaws.{checks, check-refuses, few}
 use Rattle.panel_answers.proofs.ShapeLaws.{made}
-use Rattle.panel.proofs.grades_check.Statement.{statement}
-use Rattle.panel.proofs.grades_check.Tie as tie
+use Rattle.panel_networks.proofs.check.Statement.{statement}
+use Rattle.panel_networks.proofs.check.Tie as tie
 use Rattle.shape.proofs.ShapeLaws.{makes-accepted, makes-refused}
 
 from-bytes-requires : tie.Need-from-bytes-requires
@@ -38,8 +38,8 @@ returns-2 c =
     let at-shape = c .before .before .before .before .before .before in
     checks (a .network .now) (a .shape .now) (a .lower .now) (a .upper .now) (a .work .now) (c .of-check .result) _ _ _ (made (a .shape .now) (makes-accepted (at-shape .before .before .from-bytes .ensures) (at-shape .shape .given .1))) (c .before .before .before .check .ensures) (c .of-check .ensures)
 
-pub grades-check-spec : {M : Type 1} → statement M
-grades-check-spec =
+pub check-spec : {M : Type 1} → statement M
+check-spec =
     tie.close
     (tie.spec
     from-bytes-requires

@@ -1,5 +1,0 @@
--- What the proofs of several functions use.
-mod EvaluateLaws
-mod CompileLaws
-mod OutsideLaws
-mod CheckLaws

@@ -1,4 +1,0 @@
--- What the contracts of `panel` cite.
-pub mod Evaluates
-pub mod Compiles
-pub mod Checks

@@ -1,0 +1,4 @@
+-- What the contracts of `panel_networks` cite.
+pub mod Compiles
+pub mod Checks
+pub mod Evaluates

@@ -1,0 +1,45 @@
+// Compiling, checking and evaluating for C: the shape is lent as ten bytes, and answers are numbers.
+ghost use Rattle.panel_networks.specs.Compiles.{Compiles};
+ghost use Rattle.panel_networks.specs.Checks.{Checks};
+ghost use Rattle.panel_networks.specs.Evaluates.{Evaluates};
+use network::Evaluation;
+use shape::Shape;
+use shape::ShapeAnswer;
+
+// The grade of a network at a cell. The work buffer has a byte for each record.
+pub fn evaluate(network: &[u8], shape: &[u8], work: &mut [u8], cell: u32) -> u32
+    ensures { λ r. ⌜ Evaluates (now (network .entry)) (now (shape .entry)) cell (now (work .entry)) (now (work .exit)) r ⌝ }
+{
+    match Shape::from_bytes(shape) {
+        ShapeAnswer::Accepted(shape) => {
+            panel_answers::of_evaluation(network::evaluate(network, shape, work, cell as usize))
+        }
+        ShapeAnswer::Refused(refusal) => panel_answers::of_evaluation(Evaluation::Refused(refusal)),
+    }
+}
+
+// The network of a table: how many records were written. The work buffer has 16 bytes for each
+// cell, the network buffer 16 for each of the most records that there can be.
+pub fn compile(shape: &[u8], lower: &[u8], upper: &[u8], work: &mut [u8], network: &mut [u8]) -> u32
+    ensures { λ r. ⌜ Compiles (now (shape .entry)) (now (lower .entry)) (now (upper .entry)) (now (work .entry)) (now (network .entry)) r (now (work .exit)) (now (network .exit)) ⌝ }
+{
+    match Shape::from_bytes(shape) {
+        ShapeAnswer::Refused(refusal) => panel_answers::of_refusal(refusal),
+        ShapeAnswer::Accepted(shape) => {
+            panel_answers::of_compile(compile::compile(shape, lower, upper, work, network))
+        }
+    }
+}
+
+// Whether a network keeps within a table's limits: 0, or a number for the first cell outside and
+// its grade there. The work buffer has a byte for each record.
+pub fn check(network: &[u8], shape: &[u8], lower: &[u8], upper: &[u8], work: &mut [u8]) -> u32
+    ensures { λ r. ⌜ Checks (now (network .entry)) (now (shape .entry)) (now (lower .entry)) (now (upper .entry)) (now (work .entry)) r (now (work .exit)) ⌝ }
+{
+    match Shape::from_bytes(shape) {
+        ShapeAnswer::Refused(refusal) => panel_answers::of_refusal(refusal),
+        ShapeAnswer::Accepted(shape) => {
+            panel_answers::of_check(network::check(network, shape, lower, upper, work))
+        }
+    }
+}
