@@ -33,11 +33,25 @@ fn parity(cards: &[u8]) -> OwnedTable {
 }
 
 /// Noise that is the same in every run.
-fn random(cards: &[u8], grades: u8) -> OwnedTable {
+fn noise() -> impl FnMut() -> usize {
     let mut state = 1u32;
-    function(cards, grades, |_| {
+    move || {
         state = state.wrapping_mul(1_664_525).wrapping_add(1_013_904_223);
         (state >> 16) as usize
+    }
+}
+
+fn random(cards: &[u8], grades: u8) -> OwnedTable {
+    let mut next = noise();
+    function(cards, grades, |_| next())
+}
+
+/// Nine cells of ten may leave any grade, as in a file that lists few cells.
+fn sparse(cards: &[u8], grades: u8) -> OwnedTable {
+    let mut next = noise();
+    OwnedTable::by_rule(cards, grades, |_| {
+        let (listed, grade) = (next() % 10 == 0, (next() % grades as usize) as u8);
+        if listed { (grade, grade) } else { (0, grades - 1) }
     })
 }
 
@@ -147,6 +161,8 @@ pub fn all() -> Vec<Case> {
         compile("8 8 8 2 sum mod 16", None, function(&[8, 8, 8, 2], 16, sum)),
         compile("8 8 8 2 that joins", None, joinable()),
         compile("monks 2", None, monks_2()),
+        compile("8 2⁷, 90 % don't-cares, m 4", None, sparse(&LARGEST, 4)),
+        compile("8 8 8 2, 90 % don't-cares, m 4", None, sparse(&[8, 8, 8, 2], 4)),
     ];
     let growing = [("2⁴", 4), ("2⁵", 5), ("2⁶", 6), ("2⁷", 7), ("2⁸", 8)].map(|(name, count)| (name, vec![2; count]));
     let largest = [("4 2⁷", 4), ("8 2⁷", 8)].map(|(name, first)| (name, [&[first], &LARGEST[1..]].concat()));

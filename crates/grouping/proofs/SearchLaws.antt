@@ -1,5 +1,5 @@
 -- The search for the first pair that joins: its loops' states, and what they end with.
-use Prim.Native.Nat.{ℕ, _+_, _≤_, _<_}
+use Prim.Native.Nat.{ℕ, _+_, _*_, _≤_, _<_}
 use mathlib.Core.Path.{_≡_, refl, sym, subst}
 use mathlib.Core.Bool.{Bool, true, false, _&&_}
 use mathlib.Core.List.{List}
@@ -9,7 +9,9 @@ use native.Mathlib.Omega.{arith}
 use borrow.Author.Tests.{lt-ltb, le-ltb}
 use lib.Dec.{T}
 use lib.ListN.{length, getD}
-use Rattle.rules.specs.Cell.{card, present, singleton}
+use native.Mathlib.Numerals.{add-one}
+use Rattle.rules.specs.Cell.{card, present, singleton, step}
+use Rattle.laws.proofs.LineLaws.{step-next}
 use Rattle.laws.proofs.LoopLaws.{card-read, first-none, first-at}
 use Rattle.grouping.specs.Joining.{joinsAt}
 use Rattle.grouping.specs.Searching.{FirstPair}
@@ -40,6 +42,10 @@ is-absent ks i h l = le-ltb 1 (card ks i) (omega (arith, card-read ks i h))
 
 pub is-present : (ks : List ℕ) (i : ℕ) → i < length ks → 2 ≤ getD ks i 0 → present ks i ≡ true
 is-present ks i h l = lt-ltb 1 (card ks i) (omega (arith, card-read ks i h))
+
+-- the step of the next place
+pub step-more : (ks : List ℕ) (i stp : ℕ) → i < length ks → stp ≡ step ks i → stp * getD ks i 0 ≡ step ks (i + 1)
+step-more ks i stp h e = rw (add-one i, step-next ks i, card-read ks i h, e)
 
 refused : (b : Bool) → b ≡ false → T b → ⊥
 refused b e t = subst T e t
@@ -72,6 +78,20 @@ module _ {w ks : List ℕ} {low high : ℕ} where
             ⊎-elim (λ q. n .here k (omega arith) (omega arith) (subst (λ (m : ℕ). T (Admitted w ks low high m k)) q t)) (λ lo. o .below a k lo g u t)
             (let le : a ≤ i = omega arith in eq-or-lt-of-le le);
       }
+
+  -- a condition that is not there is in no pair
+  pub outer-skip : {found : Pair} {i : ℕ} → Outer w ks low high found i → i < 8 → present ks i ≡ false → Outer w ks low high found (i + 1)
+  outer-skip {found} {i} o lt e =
+      record {
+        none = o .none;
+        within = omega arith;
+        below = λ a k l g u t.
+            ⊎-elim (λ q. absent k (subst (λ (m : ℕ). T (Admitted w ks low high m k)) q t)) (λ lo. o .below a k lo g u t)
+            (let le : a ≤ i = omega arith in eq-or-lt-of-le le);
+      }
+    where
+      absent : (k : ℕ) → T (Admitted w ks low high i k) → ⊥
+      absent k t = subst (λ (b : Bool). T (b && (present ks k && joinsAt ks w low high (singleton i) (singleton k)))) e t
 
   pub found-none : {found : Pair} {i : ℕ} → Outer w ks low high found i → 8 ≤ i → FirstPair w ks low high found
   found-none {found} {i} o h =

@@ -1,26 +1,74 @@
 // Tests of joins. None writes, and each stops at the first cell that refuses.
 use rules::PLACES;
-use tables::extremes;
-ghost use Prim.Native.Nat.{_<_};
+use tables::lines;
+ghost use Prim.Native.Nat.{_<_, max};
 ghost use mathlib.Core.Path.{_≡_};
+ghost use mathlib.Core.Bool.{false, not};
+ghost use lib.Dec.{leb};
 ghost use Rattle.rules.specs.Cell.{cells, singleton};
+ghost use Rattle.tables.specs.Line.{lineBest, lineStart, LineAt};
 ghost use Rattle.tables.specs.Part.{part};
-ghost use Rattle.grouping.specs.Joining.{Tables, joinsAt, admits};
+ghost use Rattle.grouping.specs.Joining.{Tables, Stepped, joinsAt, admits};
 
-// Whether the join at the sets of i alone and of j alone exists.
-pub fn pair_joins(w: &[u8], ks: [u8; PLACES], i: usize, j: usize, low: usize, high: usize) -> bool
-    requires { ⌜ (i < 8) × (j < 8) × Tables (now w) ks low high ⌝ }
+// Whether some grade is below the one given along both of two lines through cell c.
+fn below_on_both(
+    w: &[u8],
+    table: usize,
+    c: usize,
+    step_i: usize,
+    card_i: usize,
+    step_j: usize,
+    card_j: usize,
+    grade: u8,
+) -> bool
+    requires { ⌜ LineAt (now w) table c «step_i» «card_i» × LineAt (now w) table c «step_j» «card_j» ⌝ }
+    ensures { λ r. ⌜ r ≡ not (leb grade (max (lineBest false (now (w .entry)) (lineStart table c «step_j» «card_j») «step_j» «card_j») (lineBest false (now (w .entry)) (lineStart table c «step_i» «card_i») «step_i» «card_i»))) ⌝ }
+{
+    if lines::below_at(w, table, c, step_i, card_i, grade) {
+        return lines::below_at(w, table, c, step_j, card_j, grade);
+    }
+    false
+}
+
+// Whether a grade is above another and above some grade along the line through cell c.
+fn above_both(
+    w: &[u8],
+    kept: u8,
+    table: usize,
+    c: usize,
+    step: usize,
+    card: usize,
+    grade: u8,
+) -> bool
+    requires { ⌜ LineAt (now w) table c step card ⌝ }
+    ensures { λ r. ⌜ r ≡ not (leb grade (max kept (lineBest false (now (w .entry)) (lineStart table c step card) step card))) ⌝ }
+{
+    if grade <= kept {
+        return false;
+    }
+    lines::below_at(w, table, c, step, card, grade)
+}
+
+// Whether the join at the sets of i alone and of j alone exists. The caller has the number of cells, and
+// the steps of i and of j.
+pub fn pair_joins(
+    w: &[u8],
+    ks: [u8; PLACES],
+    i: usize,
+    j: usize,
+    n: usize,
+    step_i: usize,
+    step_j: usize,
+    low: usize,
+    high: usize,
+) -> bool
+    requires { ⌜ (i < 8) × (j < 8) × Stepped ks i j n «step_i» «step_j» × Tables (now w) ks low high ⌝ }
     ensures { λ r. ⌜ r ≡ joinsAt ks (now (w .entry)) low high (singleton i) (singleton j) ⌝ }
 {
-    let n = places::cell_count(ks);
-    let step_i = places::step(ks, i);
     let card_i = ks[i] as usize;
-    let step_j = places::step(ks, j);
     let card_j = ks[j] as usize;
     for c in 0..n {
-        let first = extremes::least_at(w, high, c, step_j, card_j);
-        let second = extremes::least_at(w, high, c, step_i, card_i);
-        if extremes::extreme(true, first, second) < w[low + c] {
+        if below_on_both(w, high, c, step_i, card_i, step_j, card_j, w[low + c]) {
             return false;
         }
     }
@@ -37,8 +85,7 @@ pub fn may_add(w: &[u8], ks: [u8; PLACES], i: usize, low: usize, keep: usize, gr
     let step = places::step(ks, i);
     let card = ks[i] as usize;
     for c in 0..n {
-        let least = extremes::least_at(w, grow, c, step, card);
-        if extremes::extreme(true, w[keep + c], least) < w[low + c] {
+        if above_both(w, w[keep + c], grow, c, step, card, w[low + c]) {
             return false;
         }
     }

@@ -6,12 +6,22 @@ ghost use Prim.Native.Nat.{_<_};
 ghost use mathlib.Core.Path.{_≡_};
 ghost use mathlib.Core.Bool.{_&&_};
 ghost use Rattle.rules.specs.Cell.{present, singleton};
-ghost use Rattle.grouping.specs.Joining.{Tables, joinsAt};
+ghost use Rattle.grouping.specs.Joining.{Tables, Stepped, joinsAt};
 ghost use Rattle.grouping.specs.Searching.{FirstPair};
 
 // Whether the places have conditions i and j, and the two join.
-fn admits_pair(w: &[u8], ks: [u8; PLACES], i: usize, j: usize, low: usize, high: usize) -> bool
-    requires { ⌜ (i < 8) × (j < 8) × Tables (now w) ks low high ⌝ }
+fn admits_pair(
+    w: &[u8],
+    ks: [u8; PLACES],
+    i: usize,
+    j: usize,
+    n: usize,
+    step_i: usize,
+    step_j: usize,
+    low: usize,
+    high: usize,
+) -> bool
+    requires { ⌜ (i < 8) × (j < 8) × Stepped ks i j n «step_i» «step_j» × Tables (now w) ks low high ⌝ }
     ensures { λ r. ⌜ r ≡ present ks i && (present ks j && joinsAt ks (now (w .entry)) low high (singleton i) (singleton j)) ⌝ }
 {
     if ks[i] < 2 {
@@ -20,7 +30,7 @@ fn admits_pair(w: &[u8], ks: [u8; PLACES], i: usize, j: usize, low: usize, high:
     if ks[j] < 2 {
         return false;
     }
-    joins::pair_joins(w, ks, i, j, low, high)
+    joins::pair_joins(w, ks, i, j, n, step_i, step_j, low, high)
 }
 
 // The first pair i < j that joins, i rising, then j.
@@ -28,14 +38,23 @@ pub fn first_pair(w: &[u8], ks: [u8; PLACES], low: usize, high: usize) -> Pair
     requires { ⌜ Tables (now w) ks low high ⌝ }
     ensures { λ r. ⌜ FirstPair (now (w .entry)) ks low high r ⌝ }
 {
+    let n = places::cell_count(ks);
     let mut found = Pair::Nothing;
+    let mut step_i: usize = 1;
     'search: for i in 0..PLACES {
-        for j in i + 1..8 {
-            if admits_pair(w, ks, i, j, low, high) {
-                found = Pair::Found(i, j);
-                break 'search;
+        let card_i = ks[i] as usize;
+        let next = step_i * card_i;
+        if 1 < card_i {
+            let mut step_j = next;
+            for j in i + 1..PLACES {
+                if admits_pair(w, ks, i, j, n, step_i, step_j, low, high) {
+                    found = Pair::Found(i, j);
+                    break 'search;
+                }
+                step_j = step_j * (ks[j] as usize);
             }
         }
+        step_i = next;
     }
     found
 }

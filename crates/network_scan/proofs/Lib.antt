@@ -2,3 +2,4 @@
 pub mod MarkLaws
 pub mod SoundLaws
 pub mod ZeroLaws
+pub mod SumLaws

@@ -4,7 +4,7 @@ use rules::RECORD;
 use rules::kinds;
 ghost use mathlib.Core.Path.{_≡_};
 ghost use mathlib.Core.Bool.{_&&_, _||_};
-ghost use Prim.Native.Nat.{ℕ, _+_, _*_, _<_, _≤_};
+ghost use Prim.Native.Nat.{_+_, _*_, _<_, _≤_};
 ghost use lib.Dec.{eqb, ltb};
 ghost use lib.ListN.{length};
 ghost use Rattle.rules.specs.Bytes.{pick, at, all, word, recordAt};
@@ -21,54 +21,64 @@ const MUST_BE_ZERO: [[u8; RECORD]; 4] = [
     [0, 1, 1, 1, 0, 0, 0, 0, 1, 1, 1, 1, 1, 1, 1, 1],
 ];
 
-// The table's row for a kind. It is read once for a record, since a constant is laid out anew wherever
-// it is read.
-fn zero_row(kind: usize) -> [u8; RECORD]
-    requires { ⌜ kind < 4 ⌝ }
-    ensures { λ row. ⌜ ((j : ℕ) → j < 16 → at row j ≡ pick (named kind j) 0 1) ⌝ }
+// A byte that must be zero, by its entry in the table; 0 for any other.
+fn must_be_zero(entry: u8, byte: u8) -> u32
+    ensures { λ q. ⌜ (q ≡ pick (eqb entry 0) 0 byte) × (q ≤ 255) ⌝ }
 {
-    MUST_BE_ZERO[kind]
+    if entry == 0 { 0 } else { byte as u32 }
 }
 
-// Whether a byte may be what it is, by its entry in the table.
-fn byte_sound(entry: u8, byte: u8) -> bool
-    ensures { λ q. ⌜ q ≡ (eqb entry 0 || eqb byte 0) ⌝ }
+// Whether every byte that must be zero by a row of the table is: their sum is.
+fn row_sound(r: &[u8], row: [u8; RECORD]) -> bool
+    requires { ⌜ length (now r) ≡ 16 ⌝ }
+    ensures { λ q. ⌜ q ≡ all 16 (λ j. eqb (at row j) 0 || eqb (at (now (r .entry)) j) 0) ⌝ }
 {
-    if entry == 0 { true } else { byte == 0 }
+    let mut sum: u32 = 0;
+    for j in 0..RECORD {
+        sum = sum + must_be_zero(row[j], r[j]);
+    }
+    sum == 0
 }
 
-// Whether every byte that must be zero is.
+// Whether every byte that must be zero is. Each row is read by its own number: a constant table is laid
+// out anew wherever it is read by a number that is not known.
 fn bytes_sound(r: &[u8], kind: usize) -> bool
     requires { ⌜ (length (now r) ≡ 16) × (kind < 4) ⌝ }
     ensures { λ q. ⌜ q ≡ all 16 (λ j. named kind j || eqb (at (now (r .entry)) j) 0) ⌝ }
 {
-    let row = zero_row(kind);
-    for j in 0..RECORD {
-        if !byte_sound(row[j], r[j]) {
-            return false;
-        }
+    if kind == 0 {
+        return row_sound(r, MUST_BE_ZERO[0]);
     }
-    true
+    if kind == 1 {
+        return row_sound(r, MUST_BE_ZERO[1]);
+    }
+    if kind == 2 {
+        return row_sound(r, MUST_BE_ZERO[2]);
+    }
+    row_sound(r, MUST_BE_ZERO[3])
 }
 
-// A literal's byte for one value.
-fn grade_sound(card: usize, m: u8, v: usize, grade: u8) -> bool
-    ensures { λ q. ⌜ q ≡ literalByteSound card m v grade ⌝ }
+// What is wrong with a literal's byte for one value: 0 for nothing.
+fn grade_fault(card: u8, m: u8, v: u8, grade: u8) -> u32
+    ensures { λ q. ⌜ (eqb q 0 ≡ literalByteSound card m v grade) × (q ≤ 255) ⌝ }
 {
-    if v < card { grade < m } else { grade == 0 }
+    if v < card {
+        if grade < m { 0 } else { 1 }
+    } else {
+        grade as u32
+    }
 }
 
-// A literal's bytes for all eight values.
-fn grades_sound(r: &[u8], card: usize, m: u8) -> bool
+// A literal's bytes for all eight values: the sum of their faults is 0.
+fn grades_sound(r: &[u8], card: u8, m: u8) -> bool
     requires { ⌜ length (now r) ≡ 16 ⌝ }
     ensures { λ q. ⌜ q ≡ all 8 (λ v. literalByteSound card m v (at (now (r .entry)) (8 + v))) ⌝ }
 {
+    let mut sum: u32 = 0;
     for v in 0..PLACES {
-        if !grade_sound(card, m, v, r[8 + v]) {
-            return false;
-        }
+        sum = sum + grade_fault(card, m, v as u8, r[8 + v]);
     }
-    true
+    sum == 0
 }
 
 // The literal's condition is there, and its bytes are grades.
@@ -80,7 +90,7 @@ fn literal_sound(r: &[u8], ks: [u8; PLACES], m: u8) -> bool
     if 8 <= i {
         return false;
     }
-    let card = ks[i] as usize;
+    let card = ks[i];
     if card < 2 {
         return false;
     }

@@ -4,6 +4,7 @@ use places::sets;
 use rules::PLACES;
 use tables::extremes;
 use tables::fill;
+use tables::lines;
 use tables::moves;
 ghost use Prim.Native.Nat.{_<_};
 ghost use Rattle.rules.specs.Cell.{cells, singleton};
@@ -44,7 +45,7 @@ fn can_drop(w: &[u8], ks: [u8; PLACES], i: usize, low: usize, high: usize) -> bo
     let step = places::step(ks, i);
     let card = ks[i] as usize;
     for c in 0..n {
-        if extremes::least_at(w, high, c, step, card) < w[low + c] {
+        if lines::below_at(w, high, c, step, card, w[low + c]) {
             return false;
         }
     }

@@ -25,6 +25,9 @@ pub record Axis (ks : List ℕ) (i stp crd : ℕ) : Type 0 where
   pub step-is : stp ≡ step ks i
   pub card-is : crd ≡ getD ks i 0
 
+pub axis-of : (ks : List ℕ) (i stp : ℕ) → i < length ks → stp ≡ step ks i → Axis ks i stp (getD ks i 0)
+axis-of ks i stp h e = record { place = h; step-is = e; card-is = refl }
+
 -- cell v of the line through cell c lies within the table
 line-within : (stp crd count c v : ℕ) → 0 < stp → v < crd → 0 < stp * crd → c < stp * crd * count
     → c % stp + c / (stp * crd) * (stp * crd) + stp * v < stp * crd * count

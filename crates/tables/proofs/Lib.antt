@@ -4,3 +4,4 @@ pub mod ScanLaws
 pub mod LineLaws
 pub mod OverLaws
 pub mod LeastLaws
+pub mod BelowLaws

@@ -3,11 +3,10 @@
 use rules::PLACES;
 ghost use Prim.Native.Nat.{_+_, _*_, _≤_, _<_};
 ghost use mathlib.Core.Path.{_≡_};
-ghost use mathlib.Core.Bool.{false};
 ghost use lib.ListN.{length};
 ghost use Rattle.rules.specs.Cell.{cells, singleton, over};
 ghost use Rattle.tables.specs.Part.{part, Laid, Shaped};
-ghost use Rattle.tables.specs.Line.{best, lineBest, lineStart, Line, LineAt, Spread, Block, BlockSet, Blocks, alongLines};
+ghost use Rattle.tables.specs.Line.{best, lineBest, Line, Spread, Block, BlockSet, Blocks, alongLines};
 
 pub fn extreme(greatest: bool, a: u8, b: u8) -> u8
     ensures { λ r. ⌜ r ≡ best greatest a b ⌝ }
@@ -84,14 +83,4 @@ pub fn over_set(w: &mut [u8], greatest: bool, ks: [u8; PLACES], set: u8, a: usiz
             over_one(w, greatest, ks, i, a);
         }
     }
-}
-
-// The least grade along the line through cell c of a table: the cells that are step apart, card of
-// them.
-pub fn least_at(w: &[u8], table: usize, c: usize, step: usize, card: usize) -> u8
-    requires { ⌜ LineAt (now w) table c step card ⌝ }
-    ensures { λ r. ⌜ r ≡ lineBest false (now (w .entry)) (lineStart table c step card) step card ⌝ }
-{
-    let block = step * card;
-    line_extreme(w, false, table + (c % step + c / block * block), step, card)
 }

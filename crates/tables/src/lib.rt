@@ -2,5 +2,6 @@
 pub mod extremes;
 pub mod fill;
 pub mod limits;
+pub mod lines;
 pub mod moves;
 pub mod tests;

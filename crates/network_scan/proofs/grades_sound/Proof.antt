@@ -1,39 +1,38 @@
 -- `network_scan::grades_sound` meets its contract.
-use mathlib.Core.Path.{_≡_, sym, ap, _∙_}
-use mathlib.Core.Bool.{true}
-use Prim.Native.Nat.{ℕ, _+_, _-_, _≤_}
+use mathlib.Core.Path.{_≡_, refl, ap, _∙_}
+use Prim.Native.Nat.{ℕ, _+_, _-_, _*_, _≤_}
 use native.Mathlib.Omega.{arith}
+use lib.Dec.{eqb}
+use borrow.Author.Needs.{needs}
 use Rattle.rules.specs.Bytes.{at, all}
 use Rattle.rules.specs.Network.{literalByteSound}
-use Rattle.laws.proofs.TableLaws.{all-more, all-false}
-use borrow.Author.Tests.{not-true, not-false}
-use borrow.Author.Needs.{needs}
+use Rattle.network_scan.proofs.SumLaws.{sum-more}
 use Rattle.network_scan.proofs.grades_sound.Statement.{statement}
 use Rattle.network_scan.proofs.grades_sound.Tie as tie
 
 abbrev Inv-loop : tie.InvT-loop
-Inv-loop r card m v₀ v = (v ≤ 8) × (all v (λ w. literalByteSound card m w (at r (8 + w))) ≡ true)
+Inv-loop r card m sum₀ v₀ sum v = (v ≤ 8) × (sum ≤ 255 * v) × (eqb sum 0 ≡ all v (λ w. literalByteSound card m w (at r (8 + w))))
 
 abbrev μ-loop : tie.MeasureT-loop
-μ-loop r card m v₀ v = 8 - v
+μ-loop r card m sum₀ v₀ sum v = 8 - v
 
 loop-holds : tie.Need-loop-holds Inv-loop μ-loop
-loop-holds c = search needs
+loop-holds c = (search needs, search needs, refl)
 
-add-grade-sound : tie.Need-add-grade-sound Inv-loop μ-loop
-add-grade-sound c = search needs
+cast-grade-fault : tie.Need-cast-grade-fault Inv-loop μ-loop
+cast-grade-fault c = search needs
 
-shared-slice-read-grade-sound : tie.Need-shared-slice-read-grade-sound Inv-loop μ-loop
-shared-slice-read-grade-sound c = search needs
+add-grade-fault : tie.Need-add-grade-fault Inv-loop μ-loop
+add-grade-fault c = search needs
 
-grade-sound-requires : tie.Need-grade-sound-requires Inv-loop μ-loop
-grade-sound-requires c κs = search needs
+shared-slice-read-grade-fault : tie.Need-shared-slice-read-grade-fault Inv-loop μ-loop
+shared-slice-read-grade-fault c = search needs
 
-returns : tie.Need-returns Inv-loop μ-loop
-returns c =
-    let a = c .before .before .before .before .before .before .args in
-    let i = c .before .before .before .before .loop .v in
-    sym (all-false 8 (λ w. literalByteSound (a .card) (a .m) w (at (a .r .now) (8 + w))) i (search needs) (sym (c .before .grade-sound .ensures) ∙ not-true (c .before .grade-sound .result) (c .if1 .taken)))
+grade-fault-requires : tie.Need-grade-fault-requires Inv-loop μ-loop
+grade-fault-requires c κs = search needs
+
+add-sum : tie.Need-add-sum Inv-loop μ-loop
+add-sum c = let l = c .before .before .before .loop in omega (arith, l .inv .1, c .grade-fault .ensures .1)
 
 add-v : tie.Need-add-v Inv-loop μ-loop
 add-v c = search needs
@@ -43,15 +42,15 @@ loop-less c = search needs
 
 loop-again : tie.Need-loop-again Inv-loop μ-loop
 loop-again c =
-    let a = c .before .before .before .before .before .before .args in
-    let l = c .before .before .before .before .loop in
-    (search needs, all-more (l .v) (λ w. literalByteSound (a .card) (a .m) w (at (a .r .now) (8 + w))) (l .inv .1) (sym (c .before .grade-sound .ensures) ∙ not-false (c .before .grade-sound .result) (c .if1 .left)))
+    let a = c .before .before .before .before .before .args in
+    let l = c .before .before .before .loop in
+    (search needs, omega (arith, l .inv .1, c .grade-fault .ensures .1), sum-more (l .v) (l .sum) (c .grade-fault .result) (λ w. literalByteSound (a .card) (a .m) w (at (a .r .now) (8 + w))) (l .inv .2) (c .grade-fault .ensures .0))
 
-returns-2 : tie.Need-returns-2 Inv-loop μ-loop
-returns-2 c =
+returns : tie.Need-returns Inv-loop μ-loop
+returns c =
     let a = c .before .before .before .args in
     let e : c .before .loop .v ≡ 8 = omega arith in
-    sym (ap (λ (n : ℕ). all n (λ w. literalByteSound (a .card) (a .m) w (at (a .r .now) (8 + w)))) (sym e) ∙ c .before .loop .inv .1)
+    c .before .loop .inv .2 ∙ ap (λ (n : ℕ). all n (λ w. literalByteSound (a .card) (a .m) w (at (a .r .now) (8 + w)))) e
 
 pub grades-sound-spec : {M : Type 1} → statement M
 grades-sound-spec =
@@ -60,11 +59,12 @@ grades-sound-spec =
     Inv-loop
     μ-loop
     loop-holds
-    add-grade-sound
-    shared-slice-read-grade-sound
-    grade-sound-requires
-    returns
+    cast-grade-fault
+    add-grade-fault
+    shared-slice-read-grade-fault
+    grade-fault-requires
+    add-sum
     add-v
     loop-less
     loop-again
-    returns-2)
+    returns)

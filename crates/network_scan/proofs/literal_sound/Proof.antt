@@ -22,9 +22,6 @@ returns c =
 array-read-card : tie.Need-array-read-card
 array-read-card c = search needs
 
-cast-card : tie.Need-cast-card
-cast-card c = search needs
-
 returns-2 : tie.Need-returns-2
 returns-2 c =
     let a = c .before .before .before .before .args in
@@ -48,7 +45,6 @@ literal-sound-spec =
     cast-i
     returns
     array-read-card
-    cast-card
     returns-2
     grades-sound-requires
     returns-3)

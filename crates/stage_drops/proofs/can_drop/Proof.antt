@@ -5,8 +5,8 @@ use native.Mathlib.Omega.{arith}
 use lib.ListN.{getD}
 use mathlib.Core.Bool.{true}
 use Rattle.tables.proofs.LeastLaws.{Axis, line-at}
+use Rattle.tables.proofs.BelowLaws.{test-refuses, test-passes}
 use Rattle.stage_drops.proofs.CanDropLaws.{dropCell, drop-passed, drop-failed}
-use borrow.Author.Tests.{le-leb, lt-leb}
 use borrow.Author.Count.{below-more}
 use borrow.Author.Needs.{needs}
 use Rattle.stage_drops.proofs.can_drop.Statement.{statement}
@@ -37,23 +37,23 @@ axis c = record { place = search needs; step-is = c .step .ensures; card-is = re
 loop-holds : tie.Need-loop-holds Inv-loop μ-loop
 loop-holds c = (search needs, λ k h. absurd (omega arith))
 
-least-at-requires : tie.Need-least-at-requires Inv-loop μ-loop
-least-at-requires c κs =
-    let p = c .before .before .before .before .before .pre .1 in
-    line-at (p .shaped) (axis (c .before .before)) _ _ (c .before .loop .c) (p .second) (omega arith)
+add-below-at : tie.Need-add-below-at Inv-loop μ-loop
+add-below-at c = search needs
 
-add-if1 : tie.Need-add-if1 Inv-loop μ-loop
-add-if1 c = search needs
+shared-slice-read-below-at : tie.Need-shared-slice-read-below-at Inv-loop μ-loop
+shared-slice-read-below-at c = search needs
 
-shared-slice-read-if1 : tie.Need-shared-slice-read-if1 Inv-loop μ-loop
-shared-slice-read-if1 c = search needs
+below-at-requires : tie.Need-below-at-requires Inv-loop μ-loop
+below-at-requires c κs =
+    let p = c .before .before .before .before .before .before .pre .1 in
+    line-at (p .shaped) (axis (c .before .before .before)) _ _ (c .before .before .loop .c) (p .second) (omega arith)
 
 returns : tie.Need-returns Inv-loop μ-loop
 returns c =
     let b = c .before .before .before .before .before in
     let s = b .before .before .before .args in
     drop-failed (s .w .now) (s .low) (s .high) (b .before .before .before .pre .1 .shaped) (axis b) (c .before .before .before .before .loop .c) (omega arith)
-    (rw (← (c .before .before .least-at .ensures)) (lt-leb _ _ (c .if1 .taken)))
+    (test-refuses (c .before .below-at .ensures) (c .if1 .taken))
 
 add-c : tie.Need-add-c Inv-loop μ-loop
 add-c c = search needs
@@ -64,7 +64,7 @@ loop-less c = search needs
 loop-again : tie.Need-loop-again Inv-loop μ-loop
 loop-again c =
     let l = c .before .before .before .before .loop in
-    (search needs, below-more _ (l .c) (l .inv .1) (rw (← (c .before .before .least-at .ensures)) (le-leb _ _ (c .if1 .left))))
+    (search needs, below-more _ (l .c) (l .inv .1) (test-passes (c .before .below-at .ensures) (c .if1 .left)))
 
 returns-2 : tie.Need-returns-2 Inv-loop μ-loop
 returns-2 c =
@@ -83,9 +83,9 @@ can-drop-spec =
     array-read-card
     cast-card
     loop-holds
-    least-at-requires
-    add-if1
-    shared-slice-read-if1
+    add-below-at
+    shared-slice-read-below-at
+    below-at-requires
     returns
     add-c
     loop-less

@@ -5,8 +5,8 @@ use native.Mathlib.Omega.{arith}
 use lib.ListN.{getD}
 use mathlib.Core.Bool.{true}
 use Rattle.tables.proofs.LeastLaws.{Axis, line-at}
+use Rattle.tables.proofs.BelowLaws.{test-refuses, test-passes}
 use Rattle.grouping.proofs.JoiningLaws.{addCell, add-passed, add-failed}
-use borrow.Author.Tests.{le-leb, lt-leb}
 use borrow.Author.Count.{below-more}
 use borrow.Author.Needs.{needs}
 use Rattle.grouping.proofs.joins.may_add.Statement.{statement}
@@ -37,32 +37,29 @@ axis c = record { place = search needs; step-is = c .step .ensures; card-is = re
 loop-holds : tie.Need-loop-holds Inv-loop μ-loop
 loop-holds c = (search needs, λ k h. absurd (omega arith))
 
-least-at-requires : tie.Need-least-at-requires Inv-loop μ-loop
-least-at-requires c κs =
-    let p = c .before .before .before .before .before .pre .2 in
-    line-at (p .shaped) (axis (c .before .before)) _ _ (c .before .loop .c) (p .second) (omega arith)
+add-above-both : tie.Need-add-above-both Inv-loop μ-loop
+add-above-both c = search needs
 
-add-extreme : tie.Need-add-extreme Inv-loop μ-loop
-add-extreme c = search needs
+shared-slice-read-above-both : tie.Need-shared-slice-read-above-both Inv-loop μ-loop
+shared-slice-read-above-both c = search needs
 
-shared-slice-read-extreme : tie.Need-shared-slice-read-extreme Inv-loop μ-loop
-shared-slice-read-extreme c = search needs
+add-above-both-2 : tie.Need-add-above-both-2 Inv-loop μ-loop
+add-above-both-2 c = search needs
 
-extreme-requires : tie.Need-extreme-requires Inv-loop μ-loop
-extreme-requires c κs = search needs
+shared-slice-read-above-both-2 : tie.Need-shared-slice-read-above-both-2 Inv-loop μ-loop
+shared-slice-read-above-both-2 c = search needs
 
-add-if1 : tie.Need-add-if1 Inv-loop μ-loop
-add-if1 c = search needs
-
-shared-slice-read-if1 : tie.Need-shared-slice-read-if1 Inv-loop μ-loop
-shared-slice-read-if1 c = search needs
+above-both-requires : tie.Need-above-both-requires Inv-loop μ-loop
+above-both-requires c κs =
+    let p = c .before .before .before .before .before .before .before .pre .2 in
+    line-at (p .shaped) (axis (c .before .before .before .before)) _ _ (c .before .before .before .loop .c) (p .second) (omega arith)
 
 returns : tie.Need-returns Inv-loop μ-loop
 returns c =
-    let b = c .before .before .before .before .before .before .before in
+    let b = c .before .before .before .before .before .before in
     let s = b .before .before .before .args in
-    add-failed (s .w .now) (s .low) (s .keep) (s .grow) (b .before .before .before .pre .1 .shaped) (axis b) (c .before .before .before .before .before .before .loop .c) (omega arith)
-    (rw (← (c .before .before .before .before .least-at .ensures), ← (c .before .before .extreme .ensures)) (lt-leb _ _ (c .if1 .taken)))
+    add-failed (s .w .now) (s .low) (s .keep) (s .grow) (b .before .before .before .pre .1 .shaped) (axis b) (c .before .before .before .before .before .loop .c) (omega arith)
+    (test-refuses (c .before .above-both .ensures) (c .if1 .taken))
 
 add-c : tie.Need-add-c Inv-loop μ-loop
 add-c c = search needs
@@ -72,8 +69,8 @@ loop-less c = search needs
 
 loop-again : tie.Need-loop-again Inv-loop μ-loop
 loop-again c =
-    let l = c .before .before .before .before .before .before .loop in
-    (search needs, below-more _ (l .c) (l .inv .1) (rw (← (c .before .before .before .before .least-at .ensures), ← (c .before .before .extreme .ensures)) (le-leb _ _ (c .if1 .left))))
+    let l = c .before .before .before .before .before .loop in
+    (search needs, below-more _ (l .c) (l .inv .1) (test-passes (c .before .above-both .ensures) (c .if1 .left)))
 
 returns-2 : tie.Need-returns-2 Inv-loop μ-loop
 returns-2 c =
@@ -92,12 +89,11 @@ may-add-spec =
     array-read-card
     cast-card
     loop-holds
-    least-at-requires
-    add-extreme
-    shared-slice-read-extreme
-    extreme-requires
-    add-if1
-    shared-slice-read-if1
+    add-above-both
+    shared-slice-read-above-both
+    add-above-both-2
+    shared-slice-read-above-both-2
+    above-both-requires
     returns
     add-c
     loop-less
