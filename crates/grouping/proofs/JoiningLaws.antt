@@ -10,50 +10,49 @@ use Rattle.rules.specs.Cell.{Positive, cells, singleton, insert, leastOver}
 use Rattle.laws.proofs.LineLaws.{over-insert}
 use Rattle.laws.proofs.OverLaws.{min-bound}
 use Rattle.tables.specs.Part.{part, Shaped}
-use Rattle.tables.specs.Line.{lineBest, lineStart}
+use Rattle.tables.specs.Line.{leastOn}
+use Rattle.tables.specs.declared.lines.Along.{Along}
 use Rattle.tables.proofs.PartLaws.{part-at}
-use Rattle.laws.proofs.TableLaws.{all-same}
-use Rattle.tables.proofs.ScanLaws.{scan-passed, scan-failed}
+use Rattle.laws.proofs.TableLaws.{all-same, all-false}
+use Rattle.tables.proofs.ScanLaws.{all-passed}
 use Rattle.grouping.specs.Joining.{joins, joinsAt, admits}
-use Rattle.tables.proofs.LeastLaws.{Axis, least-at}
+use Rattle.tables.proofs.AlongLaws.{Walks, walks-least}
 
--- the test of a pair, cell by cell: i's step and cardinality, then j's
-abbrev pub pairCell : List ℕ → ℕ → ℕ → ℕ → ℕ → ℕ → ℕ → ℕ → Bool
-pairCell w low high stp crd stp′ crd′ k = leb (at w (low + k)) (max (lineBest false w (lineStart high k stp′ crd′) stp′ crd′) (lineBest false w (lineStart high k stp crd) stp crd))
+-- the tests at every cell, under the rules' definitions: of the pair i, j, and of an addition of i
+abbrev pub pairCell : List ℕ → List ℕ → ℕ → ℕ → ℕ → ℕ → ℕ → Bool
+pairCell w ks i j low high c = leb (at (part w low (cells ks)) c) (max (at (leastOver ks (singleton j) (part w high (cells ks))) c) (at (leastOver ks (singleton i) (part w high (cells ks))) c))
 
-module _ (w : List ℕ) {ks : List ℕ} {i j : ℕ} (low high : ℕ) {stp crd stp′ crd′ : ℕ} (shaped : Shaped ks) (x : Axis ks i stp crd) (y : Axis ks j stp′ crd′) where
-  pair-same : (k : ℕ) → k < cells ks
-      → pairCell w low high stp crd stp′ crd′ k
-      ≡ leb (at (part w low (cells ks)) k) (max (at (leastOver ks (singleton j) (part w high (cells ks))) k) (at (leastOver ks (singleton i) (part w high (cells ks))) k))
-  pair-same k h = ap₂ leb (sym (part-at w low (cells ks) k h)) (ap₂ max (least-at shaped y w high k h) (least-at shaped x w high k h))
+abbrev pub addCell : List ℕ → List ℕ → ℕ → ℕ → ℕ → ℕ → ℕ → Bool
+addCell w ks i low keep grow c = leb (at (part w low (cells ks)) c) (max (at (part w keep (cells ks)) c) (at (leastOver ks (singleton i) (part w grow (cells ks))) c))
 
-  pub pair-passed : {c : ℕ} → c ≡ cells ks → ((k : ℕ) → k < c → pairCell w low high stp crd stp′ crd′ k ≡ true) → true ≡ joinsAt ks w low high (singleton i) (singleton j)
+module _ (w ks : List ℕ) (i j low high : ℕ) where
+  -- what a walk along both conditions finds at a cell
+  pub pair-at : {c : ℕ} {on on′ : Along} → Shaped ks → Walks ks i c on → Walks ks j c on′ → c < cells ks
+      → leb (at w (low + c)) (max (leastOn w high c on′) (leastOn w high c on)) ≡ pairCell w ks i j low high c
+  pair-at {c} shaped x y h = ap₂ leb (sym (part-at w low (cells ks) c h)) (ap₂ max (walks-least shaped y w high h) (walks-least shaped x w high h))
+
+  pub pair-passed : {c : ℕ} → c ≡ cells ks → ((k : ℕ) → k < c → pairCell w ks i j low high k ≡ true) → true ≡ joinsAt ks w low high (singleton i) (singleton j)
   unfolding joins
-  pair-passed e h = scan-passed pair-same e h
+  pair-passed e h = sym (all-passed (cells ks) (pairCell w ks i j low high) e h)
 
-  pub pair-failed : (k : ℕ) → k < cells ks → pairCell w low high stp crd stp′ crd′ k ≡ false → false ≡ joinsAt ks w low high (singleton i) (singleton j)
+  pub pair-failed : (k : ℕ) → k < cells ks → pairCell w ks i j low high k ≡ false → false ≡ joinsAt ks w low high (singleton i) (singleton j)
   unfolding joins
-  pair-failed k h e = scan-failed pair-same k h e
+  pair-failed k h e = sym (all-false (cells ks) (pairCell w ks i j low high) k h e)
 
--- the test of an addition, cell by cell
-abbrev pub addCell : List ℕ → ℕ → ℕ → ℕ → ℕ → ℕ → ℕ → Bool
-addCell w low keep grow stp crd k = leb (at w (low + k)) (max (at w (keep + k)) (lineBest false w (lineStart grow k stp crd) stp crd))
+module _ (w ks : List ℕ) (i low keep grow : ℕ) where
+  pub add-at : {c : ℕ} {on : Along} → Shaped ks → Walks ks i c on → c < cells ks
+      → leb (at w (low + c)) (max (at w (keep + c)) (leastOn w grow c on)) ≡ addCell w ks i low keep grow c
+  add-at {c} shaped x h = ap₂ leb (sym (part-at w low (cells ks) c h)) (ap₂ max (sym (part-at w keep (cells ks) c h)) (walks-least shaped x w grow h))
 
-module _ (w : List ℕ) {ks : List ℕ} {i : ℕ} (low keep grow : ℕ) {stp crd : ℕ} (shaped : Shaped ks) (x : Axis ks i stp crd) where
-  add-same : (k : ℕ) → k < cells ks
-      → addCell w low keep grow stp crd k
-      ≡ leb (at (part w low (cells ks)) k) (max (at (part w keep (cells ks)) k) (at (leastOver ks (singleton i) (part w grow (cells ks))) k))
-  add-same k h = ap₂ leb (sym (part-at w low (cells ks) k h)) (ap₂ max (sym (part-at w keep (cells ks) k h)) (least-at shaped x w grow k h))
-
-  pub add-passed : {c : ℕ} → c ≡ cells ks → ((k : ℕ) → k < c → addCell w low keep grow stp crd k ≡ true)
+  pub add-passed : {c : ℕ} → c ≡ cells ks → ((k : ℕ) → k < c → addCell w ks i low keep grow k ≡ true)
       → true ≡ admits ks i (part w low (cells ks)) (part w keep (cells ks)) (part w grow (cells ks))
   unfolding admits
-  add-passed e h = scan-passed add-same e h
+  add-passed e h = sym (all-passed (cells ks) (addCell w ks i low keep grow) e h)
 
-  pub add-failed : (k : ℕ) → k < cells ks → addCell w low keep grow stp crd k ≡ false
+  pub add-failed : (k : ℕ) → k < cells ks → addCell w ks i low keep grow k ≡ false
       → false ≡ admits ks i (part w low (cells ks)) (part w keep (cells ks)) (part w grow (cells ks))
   unfolding admits
-  add-failed k h e = scan-failed add-same k h e
+  add-failed k h e = sym (all-false (cells ks) (addCell w ks i low keep grow) k h e)
 
 -- the test of an addition decides whether the grown set joins
 pub admits-joins : (ks : List ℕ) (i : ℕ) (l u keep grow : List ℕ) (s t : ℕ) → Positive ks → keep ≡ leastOver ks t u → grow ≡ leastOver ks s u → admits ks i l keep grow ≡ joins ks l u (insert s i) t

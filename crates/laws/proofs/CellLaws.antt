@@ -102,6 +102,10 @@ present-out t ks i h =
     by-test (has t i) (λ b. absurd (subst (λ (x : ℕ). T (ltb 1 x)) (card-in t ks i b) h))
     (λ n. (n, subst (λ (x : ℕ). T (ltb 1 x)) (card-out t ks i n) h, card-out t ks i n))
 
+pub length-without : (t : ℕ) (ks : List ℕ) → length (without t ks) ≡ length ks
+length-without t [] = refl
+length-without t (k ∷ ks) = ap suc (length-without (t / 2) ks)
+
 pub without-pos : (t : ℕ) (ks : List ℕ) → Positive ks → Positive (without t ks)
 without-pos t [] p = tt
 without-pos t (k ∷ ks) p = (pick-ok (λ (x : ℕ). 0 < x) (has t 0) 1 k (λ b. le-refl 1) (λ n. p .0), without-pos (t / 2) ks (p .1))

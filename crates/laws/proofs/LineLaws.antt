@@ -7,7 +7,7 @@ use mathlib.Core.Logic.{_⊎_, inl, inr, ⊎-elim}
 use native.Mathlib.Nat.{le-refl, add-assoc, mul-comm, mul-assoc, mul-add, mul-pos, mod-lt, mod-one, div-one, mod-eq-of-lt, div-div-eq-div-mul, not-suc-le-zero, le-of-suc-le-suc, eq-or-lt-of-le, mod-add-div}
 use native.Mathlib.Omega.{arith}
 use lib.Dec.{T, eqb, eqb→eq, eqb-refl}
-use lib.ListN.{length, take}
+use lib.ListN.{length, take, drop}
 use Rattle.rules.specs.Bytes.{pick, at, numbersFrom}
 use Rattle.rules.specs.Cell.{Positive, cells, card, lowest, width, step, value, cell, remap, put, has, insert, singleton, without, agreeOutside, over, overTo}
 use Rattle.rules.specs.Demands.{Subset}
@@ -16,8 +16,8 @@ use Rattle.laws.proofs.TableLaws.{at-tabulate, tabulate-same}
 use Rattle.laws.proofs.TestLaws.{and-i, by-test, cond-ok}
 use Rattle.laws.proofs.UnionLaws.{digit-mod, digit-div, digit-below, cover, over-over}
 use Rattle.laws.proofs.SetLaws.{has-same, has-keep, has-none, insert-has, singleton-has}
-use Rattle.laws.proofs.CellLaws.{div-below, cell-lt, value-lt, value-cell, value-inj, agree-value, value-agree, card-out, without-pos}
-use Rattle.laws.proofs.LowestLaws.{lowest-cells, lowest-digit, lowest-rest}
+use Rattle.laws.proofs.CellLaws.{div-below, cell-lt, cell-value, value-lt, value-cell, value-inj, agree-value, value-agree, card-out, without-pos}
+use Rattle.laws.proofs.LowestLaws.{without-none, without-suc, lowest-cells, lowest-digit, lowest-rest}
 
 -- a cell with one value put
 pub put-lt : (ks : List ℕ) (c i v : ℕ) → Positive ks → c < cells ks → v < card ks i → put ks c i v < cells ks
@@ -90,6 +90,38 @@ put-step (k ∷ ks) c (suc i) v p h =
     ∙ ap (λ (x : ℕ). c % k + x) (mul-add k (c / k % step ks i) _ ∙ ap (λ (x : ℕ). k * (c / k % step ks i) + x) (sym (mul-assoc k (step ks i) _)))
     ∙ sym (add-assoc (c % k) (k * (c / k % step ks i)) _)
     ∙ ap (λ (x : ℕ). x + k * step ks i * (v + card ks i * (c / (k * step ks i) / card ks i))) (sym (mod-mul c k (step ks i) (p .0) (step-pos ks i (p .1))))
+
+-- without one condition: the steps up to it, the cells, and where they lie among all
+pub step-without : (ks : List ℕ) (i : ℕ) → step (without (singleton i) ks) i ≡ step ks i
+step-without [] i = refl
+step-without (k ∷ ks) zero = refl
+step-without (k ∷ ks) (suc i) = ap (λ (b : List ℕ). step b (suc i)) (without-suc i k ks) ∙ ap (λ (x : ℕ). k * x) (step-without ks i)
+
+pub cells-without : (ks : List ℕ) (i : ℕ) → i < length ks → cells (without (singleton i) ks) ≡ step ks i * cells (drop (suc i) ks)
+cells-without [] i h = absurd (not-suc-le-zero h)
+cells-without (k ∷ ks) zero h = ap (λ (b : List ℕ). 1 * cells b) (without-none ks)
+cells-without (k ∷ ks) (suc i) h =
+    ap cells (without-suc i k ks) ∙ ap (λ (x : ℕ). k * x) (cells-without ks i (le-of-suc-le-suc h)) ∙ sym (mul-assoc k (step ks i) (cells (drop (suc i) ks)))
+
+pub remap-without : (ks : List ℕ) (i c : ℕ) → Positive ks → i < length ks → c < cells (without (singleton i) ks)
+    → remap (without (singleton i) ks) ks c ≡ c % step ks i + step ks i * card ks i * (c / step ks i)
+remap-without [] i c p h hc = absurd (not-suc-le-zero h)
+remap-without (k ∷ ks) zero c p h hc = first (without 0 ks) (without-none ks) hc
+  where
+    first : (b : List ℕ) → b ≡ ks → c < 1 * cells b → c % 1 % k + k * cell ks (value b (c / 1)) ≡ c % 1 + 1 * k * (c / 1)
+    first b e lt =
+        rw (e, mod-one c, div-one c, cell-value ks c (p .1) (let q = ap cells e in omega arith)) (ap (λ (x : ℕ). x + k * c) (mod-eq-of-lt (p .0)) ∙ omega arith)
+remap-without (k ∷ ks) (suc i) c p h hc =
+    ap (λ (b : List ℕ). cell (k ∷ ks) (value b c)) (without-suc i k ks)
+    ∙ ap₂ (λ (x y : ℕ). x + k * y) (mod-eq-of-lt (mod-lt c (p .0))) (remap-without ks i (c / k) (p .1) (le-of-suc-le-suc h) (div-below c k _ (p .0) (let e = ap cells (without-suc i k ks) in omega arith)))
+    ∙ ap (λ (x : ℕ). c % k + k * (c / k % s + s * card ks i * x)) (div-div-eq-div-mul c k s)
+    ∙ ap (λ (x : ℕ). c % k + x) (mul-add k (c / k % s) (s * card ks i * (c / (k * s))))
+    ∙ sym (add-assoc (c % k) (k * (c / k % s)) (k * (s * card ks i * (c / (k * s)))))
+    ∙ ap₂ (λ (x y : ℕ). x + y) (sym (mod-mul c k s (p .0) (step-pos ks i (p .1))))
+    (sym (mul-assoc k (s * card ks i) (c / (k * s))) ∙ ap (λ (x : ℕ). x * (c / (k * s))) (sym (mul-assoc k s (card ks i))))
+  where
+    s : ℕ
+    s = step ks i
 
 -- the cell map's loop: one place more of b, the rest of the cell of a being c / step
 cell-next : (b : List ℕ) (i : ℕ) (v : ℕ → ℕ) → i < length b → cell (take (suc i) b) v ≡ cell (take i b) v + v i % card b i * step b i

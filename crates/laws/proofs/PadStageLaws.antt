@@ -16,14 +16,10 @@ use Rattle.rules.specs.Stage.{Stage, outside, computed, merged, fits, dropOne, 
 use Rattle.rules.specs.declared.Gate.{Gate}
 use Rattle.rules.specs.declared.Gate.the-variants.{Min, Max}
 use Rattle.laws.proofs.TestLaws.{and-l, and-r, cond-ok}
-use Rattle.laws.proofs.CellLaws.{present-lt}
+use Rattle.laws.proofs.CellLaws.{present-lt, length-without}
 use Rattle.laws.proofs.PadLaws.{more, cells-more, value-more, card-more, width-more, lowest-more, without-more, over-more, moved-more, exists-more, first-more, second-more}
 
 -- places past the end
-length-without : (t : ℕ) (ks : List ℕ) → length (without t ks) ≡ length ks
-length-without t [] = refl
-length-without t (k ∷ ks) = ap suc (length-without _ ks)
-
 length-drop : (i : ℕ) (x : Stage) → length (dropOne i x .ks) ≡ length (x .ks)
 length-drop i x =
     cond-ok (λ (y : Stage). length (y .ks) ≡ length (x .ks)) (present (x .ks) i && fits (x .ks) (merged i x)) (outside (singleton i) x (merged i x)) x (λ h. length-without (singleton i) (x .ks)) (λ h. refl)

@@ -13,7 +13,7 @@ use lib.Seq.{drop-cons, getD-set-same, getD-set-other, ext-getD}
 use Rattle.rules.specs.Bytes.{pick, at}
 use Rattle.rules.specs.Cell.{card, has, insert, singleton, without, width}
 use Rattle.rules.specs.Stage.{members}
-use Rattle.laws.proofs.CellLaws.{div-below}
+use Rattle.laws.proofs.CellLaws.{div-below, length-without}
 use Rattle.laws.proofs.LoopLaws.{bit, insert-bit, without-card}
 use Rattle.laws.proofs.SetLaws.{has-none}
 use Rattle.laws.proofs.TableLaws.{all-at}
@@ -81,11 +81,7 @@ taken-more {t} {ks} {i} {left} l h e =
       rest = λ j lt. getD-set-other left i j 1 1 (λ q. omega arith) ∙ l .rest j (omega arith);
     }
 
-without-length : (t : ℕ) (ks : List ℕ) → length (without t ks) ≡ length ks
-without-length t [] = refl
-without-length t (k ∷ ks) = ap suc (without-length (t / 2) ks)
-
 pub taken-all : {t : ℕ} {ks : List ℕ} {i : ℕ} {left : List ℕ} → Taken t ks i left → length ks ≤ i → left ≡ without t ks
 taken-all {t} {ks} {i} {left} l h =
-    ext-getD 1 left (without t ks) (l .len ∙ sym (without-length t ks))
+    ext-getD 1 left (without t ks) (l .len ∙ sym (length-without t ks))
     (λ j lt. let q : j < length ks = let m = l .len in omega arith in l .done j (omega arith) ∙ sym (without-card t ks j q))

@@ -30,6 +30,10 @@ use Rattle.stage_drops.proofs.DropLaws.{fewer-shaped}
 count-part : {w w′ : List ℕ} {a n k : ℕ} (f : ℕ → List ℕ) → n ≡ k → a + k ≤ length w → length (f k) ≡ k → Laid w a (f n) n w′ → part w′ a k ≡ f k
 count-part {w} {w′} {a} f e h q l = laid-part (subst (λ (i : ℕ). Laid w a (f i) i w′) e l) h q
 
+-- part i, there being as many cells as a part has bytes
+pub there : (w : List ℕ) {c k : ℕ} (i : ℕ) → c ≡ k → part w (i * c) k ≡ part w (i * k) k
+there w {c} {k} i e = ap (λ (x : ℕ). part w (i * x) k) e
+
 -- two tables moved to 8 × c
 module _ {w ks b : List ℕ} {c : ℕ} (r : LimitsRoom w ks b c) (low high : ℕ) (hl : low + cells ks ≤ 8 * c) (hh : high + cells ks ≤ 8 * c) where
   pub lay-lower : Shaped ks × Shaped b × Apart w low (cells ks) (8 * c) (cells b)
@@ -81,24 +85,24 @@ complement-part : {w w′ : List ℕ} (ks : List ℕ) (m from : ℕ) {to n : ℕ
 complement-part {w} ks m from e h l = count-part (λ i. tabulate i (λ k. m - 1 - at (part w from i) k)) e h (length-tabulateFrom _ 0 (cells ks)) l
 
 -- for min they are exchanged, in parts 2 and 3
-module _ {w ks b : List ℕ} {m c low high n : ℕ} (r : LimitsRoom w ks b c) (lo : Source w low (cells ks) m c) (hi : Source w high (cells ks) m c) (e : n ≡ cells ks) where
-  exchanging : {v : List ℕ} {a : ℕ} (d : ℕ) → length v ≡ length w → part v a n ≡ part w a n → Source w a (cells ks) m c → 2 * c ≤ d → d + c ≤ 4 * c
-      → Two v a d n × ((k : ℕ) → k < n → at (part v a n) k ≤ m - 1)
+module _ {w ks b : List ℕ} {m c low high : ℕ} (r : LimitsRoom w ks b c) (lo : Source w low (cells ks) m c) (hi : Source w high (cells ks) m c) where
+  exchanging : {v : List ℕ} {a : ℕ} (d : ℕ) → length v ≡ length w → part v a c ≡ part w a c → Source w a (cells ks) m c → 2 * c ≤ d → d + c ≤ 4 * c
+      → Two v a d c × ((k : ℕ) → k < c → at (part v a c) k ≤ m - 1)
   exchanging {v} {a} d q p x low high =
       let o = r .own .own in
       let u = r .own .room in
-      let y : Source w a n m c = subst (λ (i : ℕ). Source w a i m c) (sym e) x in
-      (clear-apart d n (omega arith) (y .clear) low (omega arith), λ k h. rw p (below-part (y .grades) k h))
+      let y : Source w a c m c = subst (λ (i : ℕ). Source w a i m c) (sym (r .own .own)) x in
+      (clear-apart d c (omega arith) (y .clear) low (omega arith), λ k h. rw p (below-part (y .grades) k h))
 
-  pub exchange-upper : Two w high (2 * c) n × ((k : ℕ) → k < n → at (part w high n) k ≤ m - 1)
+  pub exchange-upper : Two w high (2 * c) c × ((k : ℕ) → k < c → at (part w high c) k ≤ m - 1)
   exchange-upper = exchanging (2 * c) refl refl hi (omega arith) (omega arith)
 
-  module _ {w₁ : List ℕ} (l : Laid w (2 * c) (tabulate n (λ k. m - 1 - at (part w high n) k)) n w₁) where
-    pub exchange-lower : Two w₁ low (3 * c) n × ((k : ℕ) → k < n → at (part w₁ low n) k ≤ m - 1)
+  module _ {w₁ : List ℕ} (l : Laid w (2 * c) (tabulate c (λ k. m - 1 - at (part w high c) k)) c w₁) where
+    pub exchange-lower : Two w₁ low (3 * c) c × ((k : ℕ) → k < c → at (part w₁ low c) k ≤ m - 1)
     exchange-lower =
         exchanging (3 * c) (l .len) (laid-apart (exchanging (2 * c) refl refl lo (omega arith) (omega arith) .0) l) lo (omega arith) (omega arith)
 
-    module _ {w₂ : List ℕ} (j : Laid w₁ (3 * c) (tabulate n (λ k. m - 1 - at (part w₁ low n) k)) n w₂) where
+    module _ {w₂ : List ℕ} (j : Laid w₁ (3 * c) (tabulate c (λ k. m - 1 - at (part w₁ low c) k)) c w₂) where
       pub exchanged-room : LimitsRoom w₂ ks b c × (2 * c + cells ks ≤ 8 * c) × (3 * c + cells ks ≤ 8 * c)
       exchanged-room =
           let o = r .own .own in
@@ -114,15 +118,15 @@ module _ {w ks b : List ℕ} {m c low high n : ℕ} (r : LimitsRoom w ks b c) (l
           let o = r .own .own in
           let u = r .own .room in
           let p = l .len in
-          let stays : (a k : ℕ) → Clear a k c → part w₁ a k ≡ part w a k = λ a k h. laid-apart (clear-apart (2 * c) n u h (omega arith) (omega arith)) l in
+          let stays : (a k : ℕ) → Clear a k c → part w₁ a k ≡ part w a k = λ a k h. laid-apart (clear-apart (2 * c) c u h (omega arith) (omega arith)) l in
           let lower : part w₂ (2 * c) (cells ks) ≡ complement ks m (part w high (cells ks)) =
-          laid-apart (before (2 * c) (cells ks) (3 * c) n (omega arith) (omega arith)) j
-          ∙ complement-part ks m high e (omega arith) l in
+          laid-apart (before (2 * c) (cells ks) (3 * c) c (omega arith) (omega arith)) j
+          ∙ complement-part ks m high (r .own .own) (omega arith) l in
           let upper : part w₂ (3 * c) (cells ks) ≡ complement ks m (part w low (cells ks)) =
-          complement-part ks m low e (omega arith) j ∙ ap (complement ks m) (stays low (cells ks) (lo .clear)) in
+          complement-part ks m low (r .own .own) (omega arith) j ∙ ap (complement ks m) (stays low (cells ks) (lo .clear)) in
           record {
             stage = x .stage ∙ ap₂ (λ (y z : List ℕ). stageOf b (each (moved ks b) (limitsOf y z))) lower upper;
-            kept = λ a k h. x .kept a k h ∙ laid-apart (clear-apart (3 * c) n (omega arith) h (omega arith) (omega arith)) j ∙ stays a k h;
+            kept = λ a k h. x .kept a k h ∙ laid-apart (clear-apart (3 * c) c (omega arith) h (omega arith) (omega arith)) j ∙ stays a k h;
             len = x .len ∙ j .len ∙ p;
           }
 
@@ -162,20 +166,20 @@ count-below : {w : List ℕ} {a n k m : ℕ} → n ≡ k → Below w a n m → B
 count-below {w} {a} {m = m} e b = subst (λ (i : ℕ). Below w a i m) e b
 
 -- the first block's table
-module _ {w ks : List ℕ} {m t c n : ℕ} (r : FirstRoom w ks m t c) (e : n ≡ cells ks) where
-  pub first-above : Shaped ks × (n ≡ cells ks) × Two w 0 (6 * c) n × Two w (5 * c) (6 * c) n
+module _ {w ks : List ℕ} {m t c : ℕ} (r : FirstRoom w ks m t c) where
+  pub first-above : Shaped ks × (c ≡ cells ks) × Two w 0 (6 * c) c × Two w (5 * c) (6 * c) c
   first-above =
       let o = r .own .own in
       let u = r .own .room in
-      (r .own .shaped, e, before 0 n (6 * c) n (omega arith) (omega arith), before (5 * c) n (6 * c) n (omega arith) (omega arith))
+      (r .own .shaped, r .own .own, before 0 c (6 * c) c (omega arith) (omega arith), before (5 * c) c (6 * c) c (omega arith) (omega arith))
 
-  module _ {b w₁ : List ℕ} (p : b ≡ without t ks) (l : Laid w (6 * c) (greatestOver ks t (tabulate n (λ k. above (at (part w 0 n) k) (at (part w (5 * c) n) k)))) n w₁) where
+  module _ {b w₁ : List ℕ} (p : b ≡ without t ks) (l : Laid w (6 * c) (greatestOver ks t (tabulate c (λ k. above (at (part w 0 c) k) (at (part w (5 * c) c) k)))) c w₁) where
     pub first-limits : LimitsRoom w₁ ks b c × (1 ≤ m) × Source w₁ (6 * c) (cells ks) m c × Source w₁ (4 * c) (cells ks) m c
     first-limits =
         let o = r .own .own in (
           limits-room t (r .own) (r .space) (l .len) p,
           r .some,
-          record { clear = clear-back (omega arith) (omega arith); grades = count-below e (above-below ks t (5 * c) e l (count-below (sym e) (r .lows))) },
+          record { clear = clear-back (omega arith) (omega arith); grades = count-below (r .own .own) (above-below ks t (5 * c) (r .own .own) l (count-below (sym (r .own .own)) (r .lows))) },
           record { clear = clear-back (omega arith) (omega arith); grades = grades-below (laid-within l) (omega arith) (r .firsts) },
         )
 
@@ -184,16 +188,16 @@ module _ {w ks : List ℕ} {m t c n : ℕ} (r : FirstRoom w ks m t c) (e : n ≡
         let o = r .own .own in
         let u = r .own .room in
         let stays : (a : ℕ) → a + c ≤ 6 * c → part w₁ a (cells ks) ≡ part w a (cells ks) =
-        λ a h. laid-apart (before a (cells ks) (6 * c) n (omega arith) (omega arith)) l in
+        λ a h. laid-apart (before a (cells ks) (6 * c) c (omega arith) (omega arith)) l in
         record {
           places = p;
           stage = λ s i f.
-              outside-laid gate m ks t (6 * c) (4 * c) i x p (above-part ks t 0 (5 * c) e (omega arith) l (f .second .lows) (f .second .seconds))
-              (stays (4 * c) (omega arith) ∙ f .firsts);
+              outside-laid gate m ks t (6 * c) (4 * c) i x p (above-part ks t 0 (5 * c) (r .own .own) (omega arith) l (f .second .lows) (there w 5 (r .own .own) ∙ f .second .seconds))
+              (stays (4 * c) (omega arith) ∙ there w 4 (r .own .own) ∙ f .firsts);
           second = λ s i f.
               record {
                 lows = x .kept 0 (cells ks) (clear-front (omega arith)) ∙ stays 0 (omega arith) ∙ f .lows;
-                seconds = x .kept (5 * c) (cells ks) (clear-back (omega arith) (omega arith)) ∙ stays (5 * c) (omega arith) ∙ f .seconds;
+                seconds = sym (there w₂ 5 (r .own .own)) ∙ x .kept (5 * c) (cells ks) (clear-back (omega arith) (omega arith)) ∙ stays (5 * c) (omega arith) ∙ there w 5 (r .own .own) ∙ f .seconds;
               };
           len = x .len ∙ l .len;
         }
@@ -211,42 +215,42 @@ module _ {w ks a : List ℕ} {m s c : ℕ} (r : SecondRoom w ks a m s c) where
   pub second-moved : Shaped a × Shaped ks × Apart w (8 * c) (cells a) (6 * c) (cells ks)
   second-moved = let o = r .own .own in (r .shaped, r .own .shaped, behind (8 * c) (cells a) (6 * c) (cells ks) (omega arith) (r .block))
 
-  module _ {n : ℕ} (e : n ≡ cells ks) {w₁ : List ℕ} (l₁ : Laid w (6 * c) (moved a ks (part w (8 * c) (cells a))) (cells ks) w₁) where
-    pub second-exchange : (1 ≤ m) × Two w₁ (6 * c) (7 * c) n × Below w₁ (6 * c) n m
+  module _ {w₁ : List ℕ} (l₁ : Laid w (6 * c) (moved a ks (part w (8 * c) (cells a))) (cells ks) w₁) where
+    pub second-exchange : (1 ≤ m) × Two w₁ (6 * c) (7 * c) c × Below w₁ (6 * c) c m
     second-exchange =
         let o = r .own .own in
         let v = r .own .room in
         let q₁ = l₁ .len in
-        (r .some, before (6 * c) n (7 * c) n (omega arith) (omega arith), count-below (sym e) (moved-below ks (r .shaped) (r .grades) l₁))
+        (r .some, before (6 * c) c (7 * c) c (omega arith) (omega arith), count-below (sym (r .own .own)) (moved-below ks (r .shaped) (r .grades) l₁))
 
-    module _ {u w₂ : List ℕ} (l₂ : Laid w₁ (7 * c) u n w₂) where
-      pub second-above : Shaped ks × (n ≡ cells ks) × Two w₂ 0 c n × Two w₂ (7 * c) c n
+    module _ {u w₂ : List ℕ} (l₂ : Laid w₁ (7 * c) u c w₂) where
+      pub second-above : Shaped ks × (c ≡ cells ks) × Two w₂ 0 c c × Two w₂ (7 * c) c c
       second-above =
           let o = r .own .own in
           let v = r .own .room in
           let q₁ = l₁ .len in
           let q₂ = l₂ .len in
-          (r .own .shaped, e, before 0 n c n (omega arith) (omega arith), behind (7 * c) n c n (omega arith) (omega arith))
+          (r .own .shaped, r .own .own, before 0 c c c (omega arith) (omega arith), behind (7 * c) c c c (omega arith) (omega arith))
 
       stays-in-both : (i : ℕ) → i + c ≤ 6 * c → part w₂ i (cells ks) ≡ part w i (cells ks)
       stays-in-both i h =
           let o = r .own .own in
           let v = r .own .room in
           let q₁ = l₁ .len in
-          laid-apart (before i (cells ks) (7 * c) n (omega arith) (omega arith)) l₂ ∙ laid-apart (before i (cells ks) (6 * c) (cells ks) (omega arith) (omega arith)) l₁
+          laid-apart (before i (cells ks) (7 * c) c (omega arith) (omega arith)) l₂ ∙ laid-apart (before i (cells ks) (6 * c) (cells ks) (omega arith) (omega arith)) l₁
 
       first-block : part w₁ (6 * c) (cells ks) ≡ moved a ks (part w (8 * c) (cells a))
       first-block = let o = r .own .own in let v = r .own .room in laid-part l₁ (omega arith) (length-tabulateFrom _ 0 (cells ks))
 
-      first-exchanged : (gate : Gate) → u ≡ turned gate n m (part w₁ (6 * c) n) → part w₂ (7 * c) (cells ks) ≡ exchangeBlockFor gate ks m (moved a ks (part w (8 * c) (cells a)))
+      first-exchanged : (gate : Gate) → u ≡ turned gate c m (part w₁ (6 * c) c) → part w₂ (7 * c) (cells ks) ≡ exchangeBlockFor gate ks m (moved a ks (part w (8 * c) (cells a)))
       first-exchanged gate h =
           let o = r .own .own in
           let v = r .own .room in
           let q₁ = l₁ .len in
-          count-part (λ i. turned gate i m (part w₁ (6 * c) i)) e (omega arith) (turned-length gate (cells ks) m _ (part-length w₁ (6 * c) (cells ks) (omega arith))) (laid-as h l₂)
+          count-part (λ i. turned gate i m (part w₁ (6 * c) i)) (r .own .own) (omega arith) (turned-length gate (cells ks) m _ (part-length w₁ (6 * c) (cells ks) (omega arith))) (laid-as h l₂)
           ∙ turned-block gate ks m _ ∙ ap (exchangeBlockFor gate ks m) first-block
 
-      module _ {b w₃ : List ℕ} (p : b ≡ without s ks) (l₃ : Laid w₂ c (greatestOver ks s (tabulate n (λ k. above (at (part w₂ 0 n) k) (at (part w₂ (7 * c) n) k)))) n w₃) where
+      module _ {b w₃ : List ℕ} (p : b ≡ without s ks) (l₃ : Laid w₂ c (greatestOver ks s (tabulate c (λ k. above (at (part w₂ 0 c) k) (at (part w₂ (7 * c) c) k)))) c w₃) where
         pub second-limits : LimitsRoom w₃ ks b c × (1 ≤ m) × Source w₃ c (cells ks) m c × Source w₃ (5 * c) (cells ks) m c
         second-limits =
             let o = r .own .own in
@@ -254,27 +258,27 @@ module _ {w ks a : List ℕ} {m s c : ℕ} (r : SecondRoom w ks a m s c) where
             λ i h g. grades-below (laid-within l₂) (omega arith) (grades-below (laid-within l₁) (omega arith) g) in (
               limits-room s (r .own) (r .space) (l₃ .len ∙ l₂ .len ∙ l₁ .len) p,
               r .some,
-              record { clear = clear-front (omega arith); grades = count-below e (above-below ks s (7 * c) e l₃ (count-below (sym e) (same 0 (omega arith) (r .lows)))) },
+              record { clear = clear-front (omega arith); grades = count-below (r .own .own) (above-below ks s (7 * c) (r .own .own) l₃ (count-below (sym (r .own .own)) (same 0 (omega arith) (r .lows)))) },
               record { clear = clear-back (omega arith) (omega arith); grades = grades-behind (laid-within l₃) (omega arith) (same (5 * c) (omega arith) (r .seconds)) },
             )
 
-        pub second-laid : (gate : Gate) → u ≡ turned gate n m (part w₁ (6 * c) n) → {w₄ : List ℕ} → LimitsLaid ks b (exchangeFor gate ks m (stageAt ks w₃ c (5 * c) .limits)) c w₃ w₄ → SecondLaid gate m ks a s c w b w₄
+        pub second-laid : (gate : Gate) → u ≡ turned gate c m (part w₁ (6 * c) c) → {w₄ : List ℕ} → LimitsLaid ks b (exchangeFor gate ks m (stageAt ks w₃ c (5 * c) .limits)) c w₃ w₄ → SecondLaid gate m ks a s c w b w₄
         second-laid gate h x =
             let o = r .own .own in
             let v = r .own .room in
             let q₁ = l₁ .len in
             let q₂ = l₂ .len in
             let stays : (i : ℕ) → 2 * c ≤ i → i + c ≤ 8 * c → part w₃ i (cells ks) ≡ part w₂ i (cells ks) =
-            λ i x y. laid-apart (behind i (cells ks) c n (omega arith) (omega arith)) l₃ in
+            λ i x y. laid-apart (behind i (cells ks) c c (omega arith) (omega arith)) l₃ in
             record {
               places = p;
               stage = λ t i f.
                   outside-laid gate m ks s c (5 * c) i x p
-                  (above-part ks s 0 (7 * c) e (omega arith) l₃ (stays-in-both 0 (omega arith) ∙ f .lows) (first-exchanged gate h))
-                  (stays (5 * c) (omega arith) (omega arith) ∙ stays-in-both (5 * c) (omega arith) ∙ f .seconds);
+                  (above-part ks s 0 (7 * c) (r .own .own) (omega arith) l₃ (stays-in-both 0 (omega arith) ∙ f .lows) (first-exchanged gate h))
+                  (stays (5 * c) (omega arith) (omega arith) ∙ stays-in-both (5 * c) (omega arith) ∙ there w 5 (r .own .own) ∙ f .seconds);
               first =
                   x .kept (6 * c) (cells ks) (clear-back (omega arith) (omega arith)) ∙ stays (6 * c) (omega arith) (omega arith)
-                  ∙ laid-apart (before (6 * c) (cells ks) (7 * c) n (omega arith) (omega arith)) l₂ ∙ first-block;
+                  ∙ laid-apart (before (6 * c) (cells ks) (7 * c) c (omega arith) (omega arith)) l₂ ∙ first-block;
               len = x .len ∙ l₃ .len ∙ q₂ ∙ q₁;
             }
 
@@ -283,22 +287,22 @@ module _ {w ks b : List ℕ} {c : ℕ} (r : JoinedRoom w ks b c) where
   pub joined-moved : Shaped b × Shaped ks × Apart w (8 * c) (cells b) (7 * c) (cells ks)
   joined-moved = let o = r .own .own in (r .shaped, r .own .shaped, behind (8 * c) (cells b) (7 * c) (cells ks) (omega arith) (r .block))
 
-  module _ {w₁ : List ℕ} (l : Laid w (7 * c) (moved b ks (part w (8 * c) (cells b))) (cells ks) w₁) {n : ℕ} (e : n ≡ cells ks) where
-    pub joined-combine : Two w₁ (6 * c) 0 n × Two w₁ (7 * c) 0 n
+  module _ {w₁ : List ℕ} (l : Laid w (7 * c) (moved b ks (part w (8 * c) (cells b))) (cells ks) w₁) where
+    pub joined-combine : Two w₁ (6 * c) 0 c × Two w₁ (7 * c) 0 c
     joined-combine =
         let o = r .own .own in
         let u = r .own .room in
         let q = l .len in
-        (behind (6 * c) n 0 n (omega arith) (omega arith), behind (7 * c) n 0 n (omega arith) (omega arith))
+        (behind (6 * c) c 0 c (omega arith) (omega arith), behind (7 * c) c 0 c (omega arith) (omega arith))
 
-    pub joined-laid : (gate : Gate) {w₂ : List ℕ} → Laid w₁ 0 (tabulate n (λ k. combine gate (at (part w₁ (6 * c) n) k) (at (part w₁ (7 * c) n) k))) n w₂ → JoinedLaid gate ks b c w w₂
+    pub joined-laid : (gate : Gate) {w₂ : List ℕ} → Laid w₁ 0 (tabulate c (λ k. combine gate (at (part w₁ (6 * c) c) k) (at (part w₁ (7 * c) c) k))) c w₂ → JoinedLaid gate ks b c w w₂
     joined-laid gate j =
         let o = r .own .own in
         let u = r .own .room in
         let q = l .len in
         record {
           here =
-              count-part (λ i. tabulate i (λ k. combine gate (at (part w₁ (6 * c) i) k) (at (part w₁ (7 * c) i) k))) e (omega arith) (length-tabulateFrom _ 0 (cells ks)) j
+              count-part (λ i. tabulate i (λ k. combine gate (at (part w₁ (6 * c) i) k) (at (part w₁ (7 * c) i) k))) (r .own .own) (omega arith) (length-tabulateFrom _ 0 (cells ks)) j
               ∙ ap₂ (λ (x y : List ℕ). tabulate (cells ks) (λ k. combine gate (at x k) (at y k)))
               (laid-apart (before (6 * c) (cells ks) (7 * c) (cells ks) (omega arith) (omega arith)) l)
               (laid-part l (omega arith) (length-tabulateFrom _ 0 (cells ks)));

@@ -51,8 +51,8 @@ pub record FirstRoom (w ks : List ℕ) (m t c : ℕ) : Type 0 where
 -- whatever limits the stage has: the first block's stage stands at 8 × c, and what the second is made from stays
 pub record FirstLaid (gate : Gate) (m : ℕ) (ks : List ℕ) (t c : ℕ) (w r w′ : List ℕ) : Type 0 where
   pub places : r ≡ without t ks
-  pub stage : (s : ℕ) (l : Limits) → ForBoth gate m (stageOf ks l) s t c w → stageAt r w′ (8 * c) (8 * c + cells r) ≡ firstStage m gate s t (stageOf ks l)
-  pub second : (s : ℕ) (l : Limits) → ForSecond gate m (stageOf ks l) s t c w → ForSecond gate m (stageOf ks l) s t c w′
+  pub stage : (s : ℕ) (l : Limits) → ForBoth gate m (stageOf ks l) s t w → stageAt r w′ (8 * c) (8 * c + cells r) ≡ firstStage m gate s t (stageOf ks l)
+  pub second : (s : ℕ) (l : Limits) → ForSecond gate m (stageOf ks l) s t w → ForSecond gate m (stageOf ks l) s t w′
   pub len : length w′ ≡ length w
 
 -- a buffer from which the second block's table can be made, the first block's function being at 8 × c, over the places a
@@ -69,7 +69,7 @@ pub record SecondRoom (w ks a : List ℕ) (m s c : ℕ) : Type 0 where
 -- the second block's stage stands at 8 × c, and the first block's function in part 6
 pub record SecondLaid (gate : Gate) (m : ℕ) (ks a : List ℕ) (s c : ℕ) (w r w′ : List ℕ) : Type 0 where
   pub places : r ≡ without s ks
-  pub stage : (t : ℕ) (l : Limits) → ForSecond gate m (stageOf ks l) s t c w
+  pub stage : (t : ℕ) (l : Limits) → ForSecond gate m (stageOf ks l) s t w
       → stageAt r w′ (8 * c) (8 * c + cells r) ≡ secondStage m gate s t (stageOf ks l) (moved a ks (part w (8 * c) (cells a)))
   pub first : part w′ (6 * c) (cells ks) ≡ moved a ks (part w (8 * c) (cells a))
   pub len : length w′ ≡ length w

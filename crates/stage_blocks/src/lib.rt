@@ -37,9 +37,8 @@ fn lay_limits(
     match gate {
         Gate::Max => lay(w, ks, b, low, high, c),
         Gate::Min => {
-            let n = places::cell_count(ks);
-            fill::complement(w, m - 1, high, 2 * c, n);
-            fill::complement(w, m - 1, low, 3 * c, n);
+            fill::complement(w, m - 1, high, 2 * c, c);
+            fill::complement(w, m - 1, low, 3 * c, c);
             lay(w, ks, b, 2 * c, 3 * c, c);
         }
     }
@@ -58,7 +57,7 @@ pub fn first_table(
     ensures { λ r. ⌜ FirstLaid gate m ks t c (now (w .entry)) r (now (w .exit)) ⌝ }
 {
     let b = sets::without(ks, t);
-    join_tables::greatest_above(w, ks, t, 0, 5 * c, 6 * c, places::cell_count(ks));
+    join_tables::greatest_above(w, ks, t, 0, 5 * c, 6 * c, c);
     lay_limits(w, gate, m, ks, b, 6 * c, 4 * c, c);
     b
 }
@@ -76,11 +75,10 @@ pub fn second_table(
     requires { ⌜ SecondRoom (now w) ks a m s c ⌝ }
     ensures { λ r. ⌜ SecondLaid gate m ks a s c (now (w .entry)) r (now (w .exit)) ⌝ }
 {
-    let n = places::cell_count(ks);
     let b = sets::without(ks, s);
     moves::moved(w, a, ks, 8 * c, 6 * c);
-    join_tables::exchange_block(w, gate, m, 6 * c, 7 * c, n);
-    join_tables::greatest_above(w, ks, s, 0, 7 * c, c, n);
+    join_tables::exchange_block(w, gate, m, 6 * c, 7 * c, c);
+    join_tables::greatest_above(w, ks, s, 0, 7 * c, c, c);
     lay_limits(w, gate, m, ks, b, c, 5 * c, c);
     b
 }
@@ -91,5 +89,5 @@ pub fn joined(w: &mut [u8], gate: Gate, ks: [u8; PLACES], b: [u8; PLACES], c: us
     ensures { λ _. ⌜ JoinedLaid gate ks b c (now (w .entry)) (now (w .exit)) ⌝ }
 {
     moves::moved(w, b, ks, 8 * c, 7 * c);
-    fill::combine(w, gate, 6 * c, 7 * c, 0, places::cell_count(ks));
+    fill::combine(w, gate, 6 * c, 7 * c, 0, c);
 }

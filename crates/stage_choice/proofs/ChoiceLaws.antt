@@ -18,13 +18,13 @@ use Rattle.join_tables.specs.Parts.{Below}
 use Rattle.grouping.specs.declared.Sets.{Sets}
 use Rattle.grouping.specs.declared.Found.{Found}
 use Rattle.grouping.specs.declared.Found.the-variants.{Nothing, Sets as Some}
-use Rattle.grouping.specs.Joining.{stageAt, joins}
+use Rattle.grouping.specs.Joining.{joins}
 use Rattle.grouping.specs.Growing.{Space, setsOf, foundSets, FoundHeld, Grouped}
-use Rattle.grouping.proofs.KeptLaws.{kept-part}
+use Rattle.grouping.proofs.KeptLaws.{cells-apart, kept-part}
 use Rattle.stage_choice.specs.declared.Choice.{Choice}
 use Rattle.stage_choice.specs.declared.Choice.the-variants.{Split, Join}
 use Rattle.stage_choice.specs.Choosing.{choiceOf, Spaced, Exchangeable, Exchanged, Taken, Decided, Settled, Prepared, Chosen}
-use Rattle.stage_drops.specs.Working.{Room, Proper, ForBoth}
+use Rattle.stage_drops.specs.Working.{Room, frontStage, Proper, ForBoth}
 use Rattle.stage_drops.proofs.DropLaws.{stageOf}
 use Rattle.stage_choice.proofs.SpaceLaws.{spaced-same, ahead, ahead-stays, behind-stays}
 
@@ -88,103 +88,116 @@ sought-as {gate} {m} {x} {low} {a} {b} {r} {w} w′ low′ a′ b′ el ea eb s 
       held = held-as (x .ks) (upperFor gate m x) w w′ a b a′ b′ r ea eb (s .held);
     }
 
-for-both : {gate : Gate} {m : ℕ} {x : Stage} {c : ℕ} {r : Found} {of : Sets} {w : List ℕ} → r ≡ Some of → Sought gate m x 0 (4 * c) (5 * c) r w → ForBoth gate m x (of .s) (of .t) c w
-for-both {gate} {m} {x} {c} {r} {of} {w} e h =
-    let s = subst (λ (f : Found). Sought gate m x 0 (4 * c) (5 * c) f w) e h in
+for-both : {gate : Gate} {m : ℕ} {x : Stage} {r : Found} {of : Sets} {w : List ℕ} → r ≡ Some of → Sought gate m x 0 (4 * cells (x .ks)) (5 * cells (x .ks)) r w → ForBoth gate m x (of .s) (of .t) w
+for-both {gate} {m} {x} {r} {of} {w} e h =
+    let s = subst (λ (f : Found). Sought gate m x 0 (4 * cells (x .ks)) (5 * cells (x .ks)) f w) e h in
     record { second = record { lows = s .lows; seconds = s .held .second }; firsts = s .held .first }
 
 -- the parts that a grouping works in
-space : {w ks : List ℕ} {c : ℕ} → Shaped ks → Spaced w c (cells ks) → (low a b : ℕ) → low + c ≤ a → a + c ≤ b → b + c ≤ 8 * c → Space w ks low a b
-space h s low a b f g l =
-    record { shaped = h; first = ahead s low a f (omega arith); second = ahead s low b (omega arith) l; both = ahead s a b g l }
+space : {w ks : List ℕ} {n : ℕ} → Shaped ks → n ≡ cells ks → Spaced w n → (low a b : ℕ) → low + n ≤ a → a + n ≤ b → b + n ≤ 8 * n → Space w ks low a b
+space h e s low a b f g l =
+    record {
+      shaped = h;
+      first = cells-apart (sym e) (ahead s low a f (omega arith));
+      second = cells-apart (sym e) (ahead s low b (omega arith) l);
+      both = cells-apart (sym e) (ahead s a b g l);
+    }
 
-pub spaces : {w ks : List ℕ} {c : ℕ} → Shaped ks → Spaced w c (cells ks) → (low high a b : ℕ) → low + c ≤ high → high + c ≤ a → a + c ≤ b → b + c ≤ 8 * c
+pub spaces : {w ks : List ℕ} {n : ℕ} → Shaped ks → n ≡ cells ks → Spaced w n → (low high a b : ℕ) → low + n ≤ high → high + n ≤ a → a + n ≤ b → b + n ≤ 8 * n
     → Space w ks low a b × Space w ks high a b
-spaces h s low high a b f g i l = (space h s low a b (omega arith) i l, space h s high a b g i l)
+spaces h e s low high a b f g i l = (space h e s low a b (omega arith) i l, space h e s high a b g i l)
 
-pub room-spaced : {w ks : List ℕ} {c : ℕ} → Room w ks c → Spaced w c (cells ks)
-room-spaced p = record { own = p .own; room = p .room }
+pub room-spaced : {w ks : List ℕ} {n : ℕ} → Room w ks n → Spaced w n
+room-spaced p = record { room = p .room }
 
 -- the grouping for max is found
-pub record ByMax (m c : ℕ) (x : Stage) (a : Found) (w : List ℕ) : Type 0 where
-  pub spaced : Spaced w c (cells (x .ks))
-  pub most : Sought Max m x 0 (4 * c) (5 * c) a w
-  pub highs : part w c (cells (x .ks)) ≡ x .limits .upper
+pub record ByMax (m : ℕ) (x : Stage) (a : Found) (w : List ℕ) : Type 0 where
+  pub spaced : Spaced w (cells (x .ks))
+  pub most : Sought Max m x 0 (4 * cells (x .ks)) (5 * cells (x .ks)) a w
+  pub highs : part w (cells (x .ks)) (cells (x .ks)) ≡ x .limits .upper
 
-pub by-max : {w ks w₁ : List ℕ} {c : ℕ} {a : Found} (m : ℕ) → Room w ks c → length ks ≡ 8 → Grouped w ks 0 c (4 * c) (5 * c) a w₁ → ByMax m c (stageAt ks w 0 c) a w₁
-by-max {w} {ks} {w₁} {c} {a} m p e g =
-    let s = room-spaced p in
+pub by-max : {w ks w₁ : List ℕ} {n : ℕ} {a : Found} (m : ℕ) → Room w ks n → length ks ≡ 8 → Grouped w ks 0 n (4 * n) (5 * n) a w₁ → ByMax m (frontStage ks w) a w₁
+by-max {w} {ks} {w₁} {n} {a} m p e q =
+    let c = cells ks in
+    let g = subst (λ (k : ℕ). Grouped w ks 0 k (4 * k) (5 * k) a w₁) (p .own) q in
+    let s : Spaced w c = subst (Spaced w) (p .own) (room-spaced p) in
     record {
       spaced = spaced-same (g .kept .len) s;
-      most = sought Max m (stageAt ks w 0 c) e (space (p .shaped) s 0 (4 * c) (5 * c) (omega arith) (omega arith) (omega arith)) refl refl g;
+      most = sought Max m (frontStage ks w) e (space (p .shaped) refl s 0 (4 * c) (5 * c) (omega arith) (omega arith) (omega arith)) refl refl g;
       highs = ahead-stays s c (omega arith) (omega arith) (omega arith) (omega arith) (g .kept);
     }
 
 -- what was found stays where its parts stay
-by-max-as : {m c : ℕ} {x : Stage} {a : Found} {w w′ : List ℕ} → ByMax m c x a w → length w′ ≡ length w → part w′ 0 (cells (x .ks)) ≡ part w 0 (cells (x .ks))
-    → part w′ c (cells (x .ks)) ≡ part w c (cells (x .ks)) → part w′ (4 * c) (cells (x .ks)) ≡ part w (4 * c) (cells (x .ks))
-    → part w′ (5 * c) (cells (x .ks)) ≡ part w (5 * c) (cells (x .ks)) → ByMax m c x a w′
-by-max-as {m} {c} {x} {a} {w} {w′} p e e₀ e₁ e₄ e₅ =
-    record { spaced = spaced-same e (p .spaced); most = sought-as w′ 0 (4 * c) (5 * c) e₀ e₄ e₅ (p .most); highs = e₁ ∙ p .highs }
+by-max-as : {m : ℕ} {x : Stage} {a : Found} {w w′ : List ℕ} → ByMax m x a w → length w′ ≡ length w → let c = cells (x .ks) in
+    part w′ 0 c ≡ part w 0 c → part w′ c c ≡ part w c c → part w′ (4 * c) c ≡ part w (4 * c) c → part w′ (5 * c) c ≡ part w (5 * c) c → ByMax m x a w′
+by-max-as {m} {x} {a} {w} {w′} p e e₀ e₁ e₄ e₅ =
+    record { spaced = spaced-same e (p .spaced); most = sought-as w′ 0 (4 * cells (x .ks)) (5 * cells (x .ks)) e₀ e₄ e₅ (p .most); highs = e₁ ∙ p .highs }
 
 -- both groupings are found
-pub record Both (m c : ℕ) (x : Stage) (a b : Found) (w : List ℕ) : Type 0 where
-  pub own : ByMax m c x a w
-  pub least : Sought Min m x (2 * c) (6 * c) (7 * c) b w
+pub record Both (m : ℕ) (x : Stage) (a b : Found) (w : List ℕ) : Type 0 where
+  pub own : ByMax m x a w
+  pub least : Sought Min m x (2 * cells (x .ks)) (6 * cells (x .ks)) (7 * cells (x .ks)) b w
 
 -- a part with a table of grades
 below-of : {w : List ℕ} {a m : ℕ} (n : ℕ) (t : List ℕ) → part w a n ≡ t → ((k : ℕ) → k < n → at t k ≤ m - 1) → Below w a n m
 below-of {w} {a} {m} n t e h = record { grade = λ k l. subst (λ (g : ℕ). g ≤ m - 1) (sym (ap (λ (f : List ℕ). at f k) e) ∙ part-at w a n k l) (h k l) }
 
-module _ {m c : ℕ} {x : Stage} {a : Found} {w₁ : List ℕ} (p : ByMax m c x a w₁) {n : ℕ} (q : n ≡ cells (x .ks)) where
-  pub exchangeable : Proper m x → Exchangeable w₁ m c n
+module _ {m : ℕ} {x : Stage} {a : Found} {w₁ : List ℕ} (p : ByMax m x a w₁) {n : ℕ} (q : n ≡ cells (x .ks)) where
+  abbrev c : ℕ
+  c = cells (x .ks)
+
+  pub exchangeable : Proper m x → Exchangeable w₁ m n
   exchangeable r =
-      subst (λ (k : ℕ). Exchangeable w₁ m c k) (sym q)
+      subst (Exchangeable w₁ m) (sym q)
       (record {
         spaced = p .spaced;
         some = r .some;
-        lows = below-of (cells (x .ks)) (x .limits .lower) (p .most .lows) (λ k h. le-trans (r .ordered k h) (r .top k h));
-        highs = below-of (cells (x .ks)) (x .limits .upper) (p .highs) (r .top);
+        lows = below-of c (x .limits .lower) (p .most .lows) (λ k h. le-trans (r .ordered k h) (r .top k h));
+        highs = below-of c (x .limits .upper) (p .highs) (r .top);
       })
 
-  module _ {w₂ : List ℕ} (e : Exchanged m c n w₁ w₂) where
-    turned-all : Exchanged m c (cells (x .ks)) w₁ w₂
-    turned-all = subst (λ (k : ℕ). Exchanged m c k w₁ w₂) q e
+  module _ {w₂ : List ℕ} (e : Exchanged m n w₁ w₂) where
+    turned-all : Exchanged m c w₁ w₂
+    turned-all = subst (λ (k : ℕ). Exchanged m k w₁ w₂) q e
 
-    pub spaced-next : Spaced w₂ c (cells (x .ks))
-    spaced-next = spaced-same (e .kept .len) (p .spaced)
+    next : Spaced w₂ c
+    next = spaced-same (e .kept .len) (p .spaced)
+
+    pub spaced-next : Spaced w₂ n
+    spaced-next = subst (Spaced w₂) (sym q) next
 
     by-min : {w₃ : List ℕ} {b : Found} → Shaped (x .ks) → length (x .ks) ≡ 8 → Grouped w₂ (x .ks) (2 * c) (3 * c) (6 * c) (7 * c) b w₃ → Sought Min m x (2 * c) (6 * c) (7 * c) b w₃
     by-min h l g =
-        sought Min m x l (space h spaced-next (2 * c) (6 * c) (7 * c) (omega arith) (omega arith) (omega arith))
+        sought Min m x l (space h refl next (2 * c) (6 * c) (7 * c) (omega arith) (omega arith) (omega arith))
         (turned-all .lows ∙ ap (complement (x .ks) m) (p .highs)) (turned-all .highs ∙ ap (complement (x .ks) m) (p .most .lows)) g
 
-    by-max-next : ByMax m c x a w₂
+    by-max-next : ByMax m x a w₂
     by-max-next =
         let s = p .spaced in
         let k = turned-all .kept in
         by-max-as p (k .len) (ahead-stays s 0 (omega arith) (omega arith) (omega arith) (omega arith) k) (ahead-stays s c (omega arith) (omega arith) (omega arith) (omega arith) k)
         (behind-stays s (4 * c) (omega arith) (omega arith) (omega arith) k) (behind-stays s (5 * c) (omega arith) (omega arith) (omega arith) k)
 
-    pub both : {w₃ : List ℕ} {b : Found} → Shaped (x .ks) → length (x .ks) ≡ 8 → Grouped w₂ (x .ks) (2 * c) (3 * c) (6 * c) (7 * c) b w₃ → Both m c x a b w₃
-    both {w₃} h l g =
+    pub both : {w₃ : List ℕ} {b : Found} → Shaped (x .ks) → length (x .ks) ≡ 8 → Grouped w₂ (x .ks) (2 * n) (3 * n) (6 * n) (7 * n) b w₃ → Both m x a b w₃
+    both {w₃} {b} h l f =
+        let g = subst (λ (k : ℕ). Grouped w₂ (x .ks) (2 * k) (3 * k) (6 * k) (7 * k) b w₃) q f in
         let k = g .kept in
-        let stay : (i : ℕ) → i + c ≤ 6 * c → part w₃ i (cells (x .ks)) ≡ part w₂ i (cells (x .ks)) = λ i le. ahead-stays spaced-next i le (omega arith) (omega arith) (omega arith) k in
+        let stay : (i : ℕ) → i + c ≤ 6 * c → part w₃ i c ≡ part w₂ i c = λ i le. ahead-stays next i le (omega arith) (omega arith) (omega arith) k in
         record {
           own = by-max-as by-max-next (k .len) (stay 0 (omega arith)) (stay c (omega arith)) (stay (4 * c) (omega arith)) (stay (5 * c) (omega arith));
           least = by-min h l g;
         }
 
-module _ {m c : ℕ} {ks : List ℕ} (w : List ℕ) {a b : Found} {w₃ : List ℕ} (p : Both m c (stageAt ks w 0 c) a b w₃) where
-  prepared : (w₄ : List ℕ) (r : Choice) → Taken a b r → Settled c (cells ks) w₃ r w₄ → Prepared m ks c w r w₄
-  prepared w₄ Split t e = ap (λ (v : List ℕ). stageAt ks v 0 c) e ∙ ap₂ (stageOf ks) (p .own .most .lows) (p .own .highs)
-  prepared w₄ (Join Max of) t e = for-both t (subst (Sought Max m (stageAt ks w 0 c) 0 (4 * c) (5 * c) a) (sym e) (p .own .most))
-  prepared w₄ (Join Min of) t e = for-both t (sought-as w₄ 0 (4 * c) (5 * c) (e .lows) (e .firsts) (e .seconds) (p .least))
+module _ {m : ℕ} {ks : List ℕ} (w : List ℕ) {a b : Found} {w₃ : List ℕ} (p : Both m (frontStage ks w) a b w₃) where
+  prepared : (w₄ : List ℕ) (r : Choice) → Taken a b r → Settled (cells ks) w₃ r w₄ → Prepared m (frontStage ks w) r w₄
+  prepared w₄ Split t e = ap (frontStage ks) e ∙ ap₂ (stageOf ks) (p .own .most .lows) (p .own .highs)
+  prepared w₄ (Join Max of) t e = for-both t (subst (Sought Max m (frontStage ks w) 0 (4 * cells ks) (5 * cells ks) a) (sym e) (p .own .most))
+  prepared w₄ (Join Min of) t e = for-both t (sought-as w₄ 0 (4 * cells ks) (5 * cells ks) (e .lows) (e .firsts) (e .seconds) (p .least))
 
-  pub is-chosen : {w₄ : List ℕ} {n : ℕ} (r : Choice) → n ≡ cells ks → Decided a b r → Settled c n w₃ r w₄ → length w₄ ≡ length w → Chosen m ks c w r w₄
+  pub is-chosen : {w₄ : List ℕ} {n : ℕ} (r : Choice) → n ≡ cells ks → Decided a b r → Settled n w₃ r w₄ → length w₄ ≡ length w → Chosen m (frontStage ks w) w r w₄
   is-chosen {w₄} r q d e l =
       record {
         is = d .is ∙ ap₂ choose (p .own .most .is) (p .least .is);
-        tables = prepared w₄ r (d .taken) (subst (λ (k : ℕ). Settled c k w₃ r w₄) q e);
+        tables = prepared w₄ r (d .taken) (subst (λ (k : ℕ). Settled k w₃ r w₄) q e);
         len = l;
       }

@@ -5,7 +5,8 @@ use mathlib.Core.List.{List}
 use lib.ListN.{length}
 use Rattle.rules.specs.declared.Gate.the-variants.{Min, Max}
 use Rattle.rules.specs.Stage as rules
-use Rattle.rules.specs.Stage.{split, joining, chosen}
+use Rattle.rules.specs.Cell.{cells}
+use Rattle.rules.specs.Stage.{Stage, split, joining, chosen}
 use Rattle.tables.specs.Part.{part}
 use Rattle.join_tables.specs.Parts.{turned, Below}
 use Rattle.grouping.specs.declared.Found.{Found}
@@ -20,23 +21,22 @@ abbrev pub choiceOf : Choice → rules.Choice
 choiceOf Split = split
 choiceOf (Join gate of) = joining gate (of .s) (of .t)
 
--- eight parts of c bytes, each with a table of n cells
-pub record Spaced (w : List ℕ) (c n : ℕ) : Type 0 where
-  pub own : n ≤ c
-  pub room : 8 * c ≤ length w
+-- eight parts of n bytes
+pub record Spaced (w : List ℕ) (n : ℕ) : Type 0 where
+  pub room : 8 * n ≤ length w
 
 -- limits below m grades in the first two
-pub record Exchangeable (w : List ℕ) (m c n : ℕ) : Type 0 where
-  pub spaced : Spaced w c n
+pub record Exchangeable (w : List ℕ) (m n : ℕ) : Type 0 where
+  pub spaced : Spaced w n
   pub some : 1 ≤ m
   pub lows : Below w 0 n m
-  pub highs : Below w c n m
+  pub highs : Below w n n m
 
 -- the limits as a min join wants them, in parts 2 and 3
-pub record Exchanged (m c n : ℕ) (w w′ : List ℕ) : Type 0 where
-  pub lows : part w′ (2 * c) n ≡ turned Min n m (part w c n)
-  pub highs : part w′ (3 * c) n ≡ turned Min n m (part w 0 n)
-  pub kept : Kept w (2 * c) (3 * c) n w′
+pub record Exchanged (m n : ℕ) (w w′ : List ℕ) : Type 0 where
+  pub lows : part w′ (2 * n) n ≡ turned Min n m (part w n n)
+  pub highs : part w′ (3 * n) n ≡ turned Min n m (part w 0 n)
+  pub kept : Kept w (2 * n) (3 * n) n w′
 
 -- the grouping that a choice takes its sets from
 abbrev pub Taken : Found → Found → Choice → Type 0
@@ -50,23 +50,24 @@ pub record Decided (a b : Found) (r : Choice) : Type 0 where
   pub taken : Taken a b r
 
 -- the min join's tables in the places of the max join's
-pub record MinSettled (c n : ℕ) (w w′ : List ℕ) : Type 0 where
-  pub lows : part w′ 0 n ≡ part w (2 * c) n
-  pub firsts : part w′ (4 * c) n ≡ part w (6 * c) n
-  pub seconds : part w′ (5 * c) n ≡ part w (7 * c) n
+pub record MinSettled (n : ℕ) (w w′ : List ℕ) : Type 0 where
+  pub lows : part w′ 0 n ≡ part w (2 * n) n
+  pub firsts : part w′ (4 * n) n ≡ part w (6 * n) n
+  pub seconds : part w′ (5 * n) n ≡ part w (7 * n) n
   pub len : length w′ ≡ length w
 
-abbrev pub Settled : ℕ → ℕ → List ℕ → Choice → List ℕ → Type 0
-Settled c n w Split w′ = w′ ≡ w
-Settled c n w (Join Max of) w′ = w′ ≡ w
-Settled c n w (Join Min of) w′ = MinSettled c n w w′
+abbrev pub Settled : ℕ → List ℕ → Choice → List ℕ → Type 0
+Settled n w Split w′ = w′ ≡ w
+Settled n w (Join Max of) w′ = w′ ≡ w
+Settled n w (Join Min of) w′ = MinSettled n w w′
 
 -- a split finds the limits as they were; a join finds what its blocks are made from
-abbrev pub Prepared : ℕ → List ℕ → ℕ → List ℕ → Choice → List ℕ → Type 0
-Prepared m ks c w Split w′ = stageAt ks w′ 0 c ≡ stageAt ks w 0 c
-Prepared m ks c w (Join gate of) w′ = ForBoth gate m (stageAt ks w 0 c) (of .s) (of .t) c w′
+abbrev pub Prepared : ℕ → Stage → Choice → List ℕ → Type 0
+Prepared m x Split w′ = stageAt (x .ks) w′ 0 (cells (x .ks)) ≡ x
+Prepared m x (Join gate of) w′ = ForBoth gate m x (of .s) (of .t) w′
 
-pub record Chosen (m : ℕ) (ks : List ℕ) (c : ℕ) (w : List ℕ) (r : Choice) (w′ : List ℕ) : Type 0 where
-  pub is : choiceOf r ≡ chosen m (stageAt ks w 0 c)
-  pub tables : Prepared m ks c w r w′
+-- the choice of the stage x
+pub record Chosen (m : ℕ) (x : Stage) (w : List ℕ) (r : Choice) (w′ : List ℕ) : Type 0 where
+  pub is : choiceOf r ≡ chosen m x
+  pub tables : Prepared m x r w′
   pub len : length w′ ≡ length w

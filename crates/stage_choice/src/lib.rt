@@ -4,9 +4,8 @@ use grouping::Sets;
 use rules::Gate;
 use rules::PLACES;
 use tables::fill;
-ghost use Rattle.grouping.specs.Joining.{stageAt};
 ghost use Rattle.stage_choice.specs.Choosing.{Spaced, Exchangeable, Exchanged, Decided, MinSettled, Settled, Chosen};
-ghost use Rattle.stage_drops.specs.Working.{Room, Proper};
+ghost use Rattle.stage_drops.specs.Working.{Room, frontStage, Proper};
 
 // What a stage with two or more conditions left does.
 pub enum Choice {
@@ -15,12 +14,12 @@ pub enum Choice {
 }
 
 // The limits as a min join wants them, in parts 2 and 3.
-fn exchange_limits(w: &mut [u8], m: u8, c: usize, n: usize)
-    requires { ⌜ Exchangeable (now w) m c n ⌝ }
-    ensures { λ _. ⌜ Exchanged m c n (now (w .entry)) (now (w .exit)) ⌝ }
+fn exchange_limits(w: &mut [u8], m: u8, n: usize)
+    requires { ⌜ Exchangeable (now w) m n ⌝ }
+    ensures { λ _. ⌜ Exchanged m n (now (w .entry)) (now (w .exit)) ⌝ }
 {
-    join_tables::exchange_block(w, Gate::Min, m, c, 2 * c, n);
-    join_tables::exchange_block(w, Gate::Min, m, 0, 3 * c, n);
+    join_tables::exchange_block(w, Gate::Min, m, n, 2 * n, n);
+    join_tables::exchange_block(w, Gate::Min, m, 0, 3 * n, n);
 }
 
 // The choice between the grouping for max and the one for min.
@@ -46,40 +45,39 @@ fn decide(by_max: Found, by_min: Found) -> Choice
 }
 
 // The tables of the min join in the places of the max join's.
-fn settle_min(w: &mut [u8], c: usize, n: usize)
-    requires { ⌜ Spaced (now w) c n ⌝ }
-    ensures { λ _. ⌜ MinSettled c n (now (w .entry)) (now (w .exit)) ⌝ }
+fn settle_min(w: &mut [u8], n: usize)
+    requires { ⌜ Spaced (now w) n ⌝ }
+    ensures { λ _. ⌜ MinSettled n (now (w .entry)) (now (w .exit)) ⌝ }
 {
-    fill::copy(w, 2 * c, 0, n);
-    fill::copy(w, 6 * c, 4 * c, n);
-    fill::copy(w, 7 * c, 5 * c, n);
+    fill::copy(w, 2 * n, 0, n);
+    fill::copy(w, 6 * n, 4 * n, n);
+    fill::copy(w, 7 * n, 5 * n, n);
 }
 
 // The tables of the join that is chosen in the places of the max join's.
-fn settle(w: &mut [u8], choice: Choice, c: usize, n: usize)
-    requires { ⌜ Spaced (now w) c n ⌝ }
-    ensures { λ _. ⌜ Settled c n (now (w .entry)) choice (now (w .exit)) ⌝ }
+fn settle(w: &mut [u8], choice: Choice, n: usize)
+    requires { ⌜ Spaced (now w) n ⌝ }
+    ensures { λ _. ⌜ Settled n (now (w .entry)) choice (now (w .exit)) ⌝ }
 {
     let Choice::Join(gate, _) = choice else {
         return;
     };
     match gate {
         Gate::Max => {}
-        Gate::Min => settle_min(w, c, n),
+        Gate::Min => settle_min(w, n),
     }
 }
 
-// The choice of the stage at 0 and c. A split finds the limits there as they were; a join finds its
-// lower limits in part 0, uA in part 4 and uB in part 5, as the max join wants them.
-pub fn choose(w: &mut [u8], ks: [u8; PLACES], m: u8, c: usize) -> Choice
-    requires { ⌜ Room (now w) ks c × Proper m (stageAt ks (now w) 0 c) ⌝ }
-    ensures { λ r. ⌜ Chosen m ks c (now (w .entry)) r (now (w .exit)) ⌝ }
+// The choice of the stage at the front of the buffer, which has n cells. A split finds the limits there as they
+// were; a join finds its lower limits in part 0, uA in part 4 and uB in part 5, as the max join wants them.
+pub fn choose(w: &mut [u8], ks: [u8; PLACES], m: u8, n: usize) -> Choice
+    requires { ⌜ Room (now w) ks n × Proper m (frontStage ks (now w)) ⌝ }
+    ensures { λ r. ⌜ Chosen m (frontStage ks (now (w .entry))) (now (w .entry)) r (now (w .exit)) ⌝ }
 {
-    let n = places::cell_count(ks);
-    let by_max = grouping::group(w, ks, 0, c, 4 * c, 5 * c);
-    exchange_limits(w, m, c, n);
-    let by_min = grouping::group(w, ks, 2 * c, 3 * c, 6 * c, 7 * c);
+    let by_max = grouping::group(w, ks, 0, n, 4 * n, 5 * n);
+    exchange_limits(w, m, n);
+    let by_min = grouping::group(w, ks, 2 * n, 3 * n, 6 * n, 7 * n);
     let choice = decide(by_max, by_min);
-    settle(w, choice, c, n);
+    settle(w, choice, n);
     choice
 }

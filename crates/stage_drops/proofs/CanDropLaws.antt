@@ -1,35 +1,38 @@
 -- The test of a drop at every cell, and the rule that it decides.
-use Prim.Native.Nat.{ℕ, _+_, _<_}
-use mathlib.Core.Path.{_≡_, sym, _∙_, ap₂}
+use Prim.Native.Nat.{ℕ, _<_}
+use mathlib.Core.Path.{_≡_, sym, _∙_, ap, ap₂}
 use mathlib.Core.Bool.{Bool, true, false}
 use mathlib.Core.List.{List}
-use native.Mathlib.Nat.{le-trans}
+use native.Mathlib.Nat.{le-trans, zero-add}
 use lib.Dec.{leb, leb→le, le→leb}
 use Rattle.rules.specs.Bytes.{at, all}
 use Rattle.rules.specs.Cell.{cells, singleton, leastOver, greatestOver}
 use Rattle.rules.specs.Stage.{fits, merged}
 use Rattle.laws.proofs.TestLaws.{same-test}
-use Rattle.laws.proofs.TableLaws.{all-at, all-of}
+use Rattle.laws.proofs.TableLaws.{all-at, all-of, all-false}
 use Rattle.laws.proofs.OverLaws.{max-bound, min-bound, over-self, over-least, over-blind}
 use Rattle.tables.specs.Part.{part, Shaped}
-use Rattle.tables.specs.Line.{lineBest, lineStart}
+use Rattle.tables.specs.Line.{leastOn}
+use Rattle.tables.specs.declared.lines.Along.{Along}
 use Rattle.tables.proofs.PartLaws.{part-at}
-use Rattle.tables.proofs.ScanLaws.{scan-passed, scan-failed}
-use Rattle.tables.proofs.LeastLaws.{Axis, least-at}
+use Rattle.tables.proofs.ScanLaws.{all-passed}
+use Rattle.tables.proofs.AlongLaws.{Walks, walks-least}
 use Rattle.grouping.specs.Joining.{stageAt}
+use Rattle.stage_drops.specs.Working.{frontStage}
 
--- the test of a drop, cell by cell
-abbrev pub dropCell : List ℕ → ℕ → ℕ → ℕ → ℕ → ℕ → Bool
-dropCell w low high stp crd k = leb (at w (low + k)) (lineBest false w (lineStart high k stp crd) stp crd)
+-- the test at every cell, under the rules' definitions
+abbrev pub dropCell : List ℕ → List ℕ → ℕ → ℕ → ℕ → Bool
+dropCell w ks i high c = leb (at (part w 0 (cells ks)) c) (at (leastOver ks (singleton i) (part w high (cells ks))) c)
 
-module _ (w : List ℕ) {ks : List ℕ} {i : ℕ} (low high : ℕ) {stp crd : ℕ} (shaped : Shaped ks) (x : Axis ks i stp crd) where
-  drop-same : (k : ℕ) → k < cells ks → dropCell w low high stp crd k ≡ leb (at (part w low (cells ks)) k) (at (leastOver ks (singleton i) (part w high (cells ks))) k)
-  drop-same k h = ap₂ leb (sym (part-at w low (cells ks) k h)) (least-at shaped x w high k h)
+module _ (w ks : List ℕ) (i high : ℕ) where
+  -- what a walk along the condition finds at a cell
+  pub drop-at : {c : ℕ} {on : Along} → Shaped ks → Walks ks i c on → c < cells ks → leb (at w c) (leastOn w high c on) ≡ dropCell w ks i high c
+  drop-at {c} shaped x h = ap₂ leb (ap (at w) (sym (zero-add c)) ∙ sym (part-at w 0 (cells ks) c h)) (walks-least shaped x w high h)
 
   -- a table is below one that is blind to i where its greatest over i is
-  drop-is : all (cells ks) (λ k. leb (at (part w low (cells ks)) k) (at (leastOver ks (singleton i) (part w high (cells ks))) k)) ≡ fits ks (merged i (stageAt ks w low high))
+  drop-is : all (cells ks) (dropCell w ks i high) ≡ fits ks (merged i (stageAt ks w 0 high))
   drop-is =
-      let l = part w low (cells ks) in
+      let l = part w 0 (cells ks) in
       let g = greatestOver ks (singleton i) l in
       let u = leastOver ks (singleton i) (part w high (cells ks)) in
       same-test (all (cells ks) (λ k. leb (at l k) (at u k))) (all (cells ks) (λ k. leb (at g k) (at u k)))
@@ -43,8 +46,12 @@ module _ (w : List ℕ) {ks : List ℕ} {i : ℕ} (low high : ℕ) {stp crd : �
       all-of (cells ks) (λ k. leb (at l k) (at u k))
       (λ c hc. le→leb _ _ (le-trans (over-self max-bound ks (singleton i) l c hc) (leb→le _ _ (all-at (cells ks) (λ k. leb (at g k) (at u k)) t c hc)))))
 
-  pub drop-passed : {c : ℕ} → c ≡ cells ks → ((k : ℕ) → k < c → dropCell w low high stp crd k ≡ true) → true ≡ fits ks (merged i (stageAt ks w low high))
-  drop-passed e h = scan-passed drop-same e h ∙ drop-is
+  pub drop-passed : {c : ℕ} → c ≡ cells ks → ((k : ℕ) → k < c → dropCell w ks i high k ≡ true) → true ≡ fits ks (merged i (stageAt ks w 0 high))
+  drop-passed e h = sym (all-passed (cells ks) (dropCell w ks i high) e h) ∙ drop-is
 
-  pub drop-failed : (k : ℕ) → k < cells ks → dropCell w low high stp crd k ≡ false → false ≡ fits ks (merged i (stageAt ks w low high))
-  drop-failed k h e = scan-failed drop-same k h e ∙ drop-is
+  pub drop-failed : (k : ℕ) → k < cells ks → dropCell w ks i high k ≡ false → false ≡ fits ks (merged i (stageAt ks w 0 high))
+  drop-failed k h e = sym (all-false (cells ks) (dropCell w ks i high) k h e) ∙ drop-is
+
+-- the upper limits start behind as many lower ones as there are cells
+pub limits-at : (ks w : List ℕ) (i : ℕ) {n : ℕ} → n ≡ cells ks → fits ks (merged i (stageAt ks w 0 n)) ≡ fits ks (merged i (frontStage ks w))
+limits-at ks w i e = ap (λ (k : ℕ). fits ks (merged i (stageAt ks w 0 k))) e

@@ -1,33 +1,36 @@
 -- A stage in its work buffer: its limits are the parts at 0 and at c.
 use Prim.Native.Nat.{ℕ, _-_, _*_, _≤_, _<_}
 use mathlib.Core.Path.{_≡_}
-use mathlib.Core.Bool.{Bool}
 use mathlib.Core.List.{List}
 use lib.ListN.{length}
 use Rattle.rules.specs.declared.Gate.{Gate}
 use Rattle.rules.specs.Bytes.{at}
-use Rattle.rules.specs.Cell.{cells, singleton, without, over, moved}
+use Rattle.rules.specs.Cell.{cells, step}
 use Rattle.rules.specs.Join.{uA, uB, exchangeFor}
+use Rattle.rules.specs.Limits.{Limits}
 use Rattle.rules.specs.Stage.{Stage}
 use Rattle.tables.specs.Part.{part, Shaped}
-use Rattle.tables.specs.Line.{best}
 use Rattle.grouping.specs.Joining.{stageAt}
-use Rattle.grouping.specs.Growing.{Kept}
 
--- a table reduced by a condition: its extreme over it, over the places without it
-pub record Reduced (greatest : Bool) (ks : List ℕ) (i a spare : ℕ) (w w′ : List ℕ) : Type 0 where
-  pub here : part w′ a (cells (without (singleton i) ks)) ≡ moved ks (without (singleton i) ks) (over (best greatest) ks (singleton i) (part w a (cells ks)))
-  pub kept : Kept w a spare (cells ks) w′
-
--- a buffer for a stage over the places ks
+-- a buffer for a stage over the places ks: eight parts of c bytes, a byte for each cell
 pub record Room (w ks : List ℕ) (c : ℕ) : Type 0 where
   pub shaped : Shaped ks
-  pub own : cells ks ≤ c
+  pub own : c ≡ cells ks
   pub room : 8 * c ≤ length w
 
--- the stage at 0 and c became what f makes of it, over the places r
-pub record Turned (f : Stage → Stage) (ks : List ℕ) (c : ℕ) (w r w′ : List ℕ) : Type 0 where
-  pub stage : stageAt r w′ 0 c ≡ f (stageAt ks w 0 c)
+-- condition i is looked at, and its step is known
+pub record Trying (w ks : List ℕ) (i c stp : ℕ) : Type 0 where
+  pub place : i < 8
+  pub room : Room w ks c
+  pub step-is : stp ≡ step ks i
+
+-- the stage over the places ks whose limits are the front of the buffer
+abbrev pub frontStage : List ℕ → List ℕ → Stage
+frontStage ks w = stageAt ks w 0 (cells ks)
+
+-- it became what f makes of it, over the places r
+pub record Turned (f : Stage → Stage) (ks w r w′ : List ℕ) : Type 0 where
+  pub stage : frontStage r w′ ≡ f (frontStage ks w)
   pub len : length w′ ≡ length w
 
 -- a stage with limits in order, below m grades
@@ -38,11 +41,17 @@ pub record Proper (m : ℕ) (x : Stage) : Type 0 where
 
 -- What the blocks of a join at s and t are made from, x being the stage with its conditions left: the lower limits as the max join
 -- wants them in part 0, uB in part 5 and, for the first block, uA in part 4
-module _ (gate : Gate) (m : ℕ) (x : Stage) (s t c : ℕ) (w : List ℕ) where
+module _ (gate : Gate) (m : ℕ) (x : Stage) (s t : ℕ) (w : List ℕ) where
+  abbrev n : ℕ
+  n = cells (x .ks)
+
+  abbrev limits : Limits
+  limits = exchangeFor gate (x .ks) m (x .limits)
+
   pub record ForSecond : Type 0 where
-    pub lows : part w 0 (cells (x .ks)) ≡ exchangeFor gate (x .ks) m (x .limits) .lower
-    pub seconds : part w (5 * c) (cells (x .ks)) ≡ uB (x .ks) s t (exchangeFor gate (x .ks) m (x .limits) .lower) (exchangeFor gate (x .ks) m (x .limits) .upper)
+    pub lows : part w 0 n ≡ limits .lower
+    pub seconds : part w (5 * n) n ≡ uB (x .ks) s t (limits .lower) (limits .upper)
 
   pub record ForBoth : Type 0 where
     pub second : ForSecond
-    pub firsts : part w (4 * c) (cells (x .ks)) ≡ uA (x .ks) s t (exchangeFor gate (x .ks) m (x .limits) .lower) (exchangeFor gate (x .ks) m (x .limits) .upper)
+    pub firsts : part w (4 * n) n ≡ uA (x .ks) s t (limits .lower) (limits .upper)

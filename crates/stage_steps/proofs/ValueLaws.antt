@@ -1,50 +1,63 @@
 -- What a split does for one value: the tables before that value's stage, the gates behind it.
 use Prim.Native.Nat.{ℕ, zero, suc, _+_, _-_, _*_, _≤_, _<_}
-use mathlib.Core.Path.{_≡_, refl, _∙_, ap}
+use mathlib.Core.Path.{_≡_, refl, sym, _∙_, ap}
 use mathlib.Core.List.{List, [], _∷_}
 use mathlib.Core.Logic.{inl}
+use native.Mathlib.Nat.{zero-add, add-zero, mul-zero, mul-comm, mul-assoc, mul-add}
 use native.Mathlib.Omega.{arith}
 use lib.Dec.{eqb}
 use lib.ListN.{length}
+use lib.Seq.{ext-getD}
 use Rattle.rules.specs.declared.Gate.the-variants.{Min, Max}
-use Rattle.rules.specs.Bytes.{pick, tabulate}
+use Rattle.rules.specs.Bytes.{at, pick, tabulate}
 use Rattle.rules.specs.Network.{Record, literal, gate, recordBytes}
-use Rattle.laws.proofs.TableLaws.{length-tabulateFrom}
+use Rattle.laws.proofs.TableLaws.{length-tabulateFrom, at-tabulate}
+use Rattle.laws.proofs.UnionLaws.{digit-below}
 use Rattle.tables.specs.Part.{part, Laid, Apart}
-use Rattle.tables.proofs.PartLaws.{laid-part, laid-apart}
+use Rattle.tables.proofs.PartLaws.{part-at, part-length}
 use Rattle.stage_steps.specs.Values.{valueCells, ValueRoom, ValueBegun, valueGates, GateRoom, GatesPut}
 use Rattle.stage_steps.specs.Putting.{Put}
 use Rattle.stage_steps.proofs.PutLaws.{put-one, put-as, put-then}
 
 module _ {w net : List ℕ} {n values c k r : ℕ} (p : ValueRoom w net n values c k r) where
-  -- a table in the first two parts of a buffer as long, and one at the end
-  value-apart : {v : List ℕ} (from to : ℕ) → from ≤ c → 8 * c ≤ to → to ≤ 8 * c + n → length v ≡ length w → Apart v from (values * n) to n
-  value-apart from to f t u e =
-      let o = p .own in
+  -- both tables of limits, side by side
+  twice : values * (2 * n) ≡ 2 * c
+  twice = let o = p .own in omega (arith, mul-comm values (2 * n), mul-assoc 2 n values, mul-comm n values)
+
+  pub limits-room : Apart w 0 (values * (2 * n)) (8 * c) (2 * n)
+  limits-room =
       let h = p .work in
+      let t = twice in
       record { src = omega arith; dst = omega arith; apart = inl (omega arith) }
 
-  pub lows-room : Apart w 0 (values * n) (8 * c) n
-  lows-room = value-apart 0 (8 * c) (omega arith) (omega arith) (omega arith) refl
+  module _ {w′ : List ℕ} (l : Laid w (8 * c) (valueCells (part w 0 (values * (2 * n))) (2 * n) values k) (2 * n) w′) where
+    -- cell j of either
+    cell : (j : ℕ) → j < 2 * n → at w′ (8 * c + j) ≡ at w (k + values * j)
+    cell j h =
+        l .here j h ∙ at-tabulate (2 * n) _ j h ∙ part-at w 0 (values * (2 * n)) (k + values * j) (digit-below values k j (2 * n) (p .below) h) ∙ ap (at w) (zero-add (k + values * j))
 
-  module _ {v : List ℕ} (l : Laid w (8 * c) (valueCells (part w 0 (values * n)) n values k) n v) where
-    pub highs-room : Apart v c (values * n) (8 * c + n) n
-    highs-room = value-apart c (8 * c + n) (omega arith) (omega arith) (omega arith) (l .len)
+    -- the table at a, which has c cells, gives the n at b
+    given : (a b : ℕ) → b + n ≤ 2 * n → values * b ≡ a → part w′ (8 * c + b) n ≡ valueCells (part w a (values * n)) n values k
+    given a b h e =
+        let e′ = l .len in
+        let f = p .work in
+        let m : length (part w′ (8 * c + b) n) ≡ n = part-length w′ (8 * c + b) n (omega arith) in
+        ext-getD 0 (part w′ (8 * c + b) n) (valueCells (part w a (values * n)) n values k) (m ∙ sym (length-tabulateFrom _ 0 n))
+        (λ j lt.
+        let q : j < n = omega arith in
+        let i : 8 * c + b + j ≡ 8 * c + (b + j) = omega arith in
+        let o : k + values * (b + j) ≡ a + (k + values * j) = omega (arith, mul-add values b j) in
+        part-at w′ (8 * c + b) n j q ∙ ap (at w′) i ∙ cell (b + j) (omega arith) ∙ ap (at w) o
+        ∙ sym (part-at w a (values * n) (k + values * j) (digit-below values k j n (p .below) q)) ∙ sym (at-tabulate n _ j q))
 
-    pub value-begun : {i top : ℕ} {net′ w′ : List ℕ} → Laid net (16 * r) (recordBytes (literal i (tabulate values (λ v. pick (eqb v k) top 0)))) 16 net′
-        → Laid v (8 * c + n) (valueCells (part v c (values * n)) n values k) n w′ → ValueBegun i values n c k top w net r w′ net′
-    value-begun {i} {top} {net′} {w′} q m =
-        let h = p .work in
-        let e = l .len in
-        let behind : Apart v (8 * c) n (8 * c + n) n = record { src = omega arith; dst = omega arith; apart = inl (omega arith) } in
+    pub value-begun : {i top : ℕ} {net′ : List ℕ} → Laid net (16 * r) (recordBytes (literal i (tabulate values (λ v. pick (eqb v k) top 0)))) 16 net′ → ValueBegun i values n c k top w net r w′ net′
+    value-begun q =
         record {
           put = put-one _ q;
-          lows = laid-apart behind m ∙ laid-part l (omega arith) (length-tabulateFrom _ 0 n);
-          highs =
-              laid-part m (omega arith) (length-tabulateFrom _ 0 n)
-              ∙ ap (λ (f : List ℕ). valueCells f n values k) (laid-apart (value-apart c (8 * c) (omega arith) (omega arith) (omega arith) refl) l);
-          before = λ j lt. m .before j (omega arith) ∙ l .before j lt;
-          len = m .len ∙ l .len;
+          lows = ap (λ (a : ℕ). part w′ a n) (sym (add-zero (8 * c))) ∙ given 0 0 (omega arith) (mul-zero values);
+          highs = given c n (omega arith) (p .own);
+          before = l .before;
+          len = l .len;
         }
 
 -- the gates of the first value, and of one after it

@@ -18,7 +18,7 @@ valueCells f n values k = tabulate n (λ j. at f (k + values * j))
 pub record ValueRoom (w net : List ℕ) (n values c k r : ℕ) : Type 0 where
   pub below : k < values
   pub few : values ≤ 8
-  pub own : values * n ≤ c
+  pub own : values * n ≡ c
   pub work : 8 * c + 2 * n ≤ length w
   pub network : 16 * r + 16 ≤ length net
 

@@ -7,7 +7,8 @@ ghost use Prim.Native.Nat.{_*_, _+_};
 ghost use Rattle.stage_steps.specs.Values.{ValueRoom, ValueBegun, GateRoom, GatesPut};
 
 // The literal that selects value k of condition i, as record r, and the limits of the cells with
-// that value, n of them, at 8 × c.
+// that value, n of them, at 8 × c. The upper limits stand right behind the lower ones, here and there, so
+// one move takes both.
 pub fn begin_value(
     w: &mut [u8],
     network: &mut [u8],
@@ -23,8 +24,7 @@ pub fn begin_value(
     ensures { λ _. ⌜ ValueBegun i values n c k top (now (w .entry)) (now (network .entry)) r (now (w .exit)) (now (network .exit)) ⌝ }
 {
     put_selector(network, r, i, values, k, top);
-    moves::cofactor(w, 0, 8 * c, n, values, k);
-    moves::cofactor(w, c, 8 * c + n, n, values, k);
+    moves::cofactor(w, 0, 8 * c, 2 * n, values, k);
 }
 
 // The gates behind the stage of value k: r is the literal's record, e the stage's next. The record

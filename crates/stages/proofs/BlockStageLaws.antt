@@ -26,6 +26,7 @@ use Rattle.join_tables.specs.Parts.{Below}
 use Rattle.grouping.specs.Joining.{stageAt}
 use Rattle.stage_drops.specs.Working.{ForSecond}
 use Rattle.stage_blocks.specs.Blocks.{stageOf, FirstRoom, FirstLaid, SecondRoom, SecondLaid}
+use Rattle.stage_blocks.proofs.BlockLaws.{there}
 use Rattle.stage_drops.proofs.DropLaws.{fewer-shaped, as-shaped}
 use Rattle.stage_steps.specs.Putting.{Put}
 use Rattle.stage_steps.specs.Ends.{CloseRoom, Closed}
@@ -78,7 +79,7 @@ module _ {gate : Gate} {m : ℕ} {ks : List ℕ} {l : Limits} {s t c : ℕ} {w n
   good : Good ks m (exchangeFor gate ks m l)
   good = exchangeFor-good ks m gate l (ready .good)
 
-  lows-below : {v : List ℕ} → ForSecond gate m y s t c v → Below v 0 (cells ks) m
+  lows-below : {v : List ℕ} → ForSecond gate m y s t v → Below v 0 (cells ks) m
   lows-below f = part-below (exchangeFor gate ks m l .lower) (f .lows) (λ k h. le-trans (good .room k h) (good .top k h))
 
   pub first-room : FirstRoom w ks m t c
@@ -90,7 +91,7 @@ module _ {gate : Gate} {m : ℕ} {ks : List ℕ} {l : Limits} {s t c : ℕ} {w n
         some = ready .grades;
         lows = lows-below (j .tables .second);
         firsts =
-            part-below _ (j .tables .firsts) (λ k h. le-trans (uA-under ks s t (exchangeFor gate ks m l .lower) (exchangeFor gate ks m l .upper) k h) (good .top k h));
+            part-below _ (there w 4 (j .left .own .own) ∙ j .tables .firsts) (λ k h. le-trans (uA-under ks s t (exchangeFor gate ks m l .lower) (exchangeFor gate ks m l .upper) k h) (good .top k h));
       }
 
   -- the first block's stage
@@ -126,11 +127,11 @@ module _ {gate : Gate} {m : ℕ} {ks : List ℕ} {l : Limits} {s t c : ℕ} {w n
       kept-part : (i : ℕ) → i + cells ks ≤ 8 * c → part w₂ i (cells ks) ≡ part w₁ i (cells ks)
       kept-part i h = let q = j .left .work in let n = f .len in back-front i (cells ks) k h (omega arith)
 
-      second-tables : ForSecond gate m y s t c w₂
+      second-tables : ForSecond gate m y s t w₂
       second-tables =
           let o = j .left .own .own in
           let u = f .second s l (j .tables .second) in
-          record { lows = kept-part 0 (omega arith) ∙ u .lows; seconds = kept-part (5 * c) (omega arith) ∙ u .seconds }
+          record { lows = kept-part 0 (omega arith) ∙ u .lows; seconds = sym (there w₂ 5 o) ∙ kept-part (5 * c) (omega arith) ∙ there w₁ 5 o ∙ u .seconds }
 
       block-here : part w₂ (8 * c) (cells a) ≡ computed (A .ks) (treeOf m A)
       block-here = child-function first-lent k (first-done .function)
@@ -158,7 +159,7 @@ module _ {gate : Gate} {m : ℕ} {ks : List ℕ} {l : Limits} {s t c : ℕ} {w n
             some = ready .grades;
             lows = lows-below second-tables;
             seconds =
-                part-below _ (second-tables .seconds)
+                part-below _ (there w₂ 5 o ∙ second-tables .seconds)
                 (λ i h. le-trans (uB-under ks s t (exchangeFor gate ks m l .lower) (exchangeFor gate ks m l .upper) i h) (good .top i h));
             grades = part-below _ block-here grade-below;
           }

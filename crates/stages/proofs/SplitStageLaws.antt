@@ -28,6 +28,7 @@ use Rattle.tables.specs.Part.{part, Laid, Apart, Two}
 use Rattle.tables.specs.Line.{Spread}
 use Rattle.tables.proofs.PartLaws.{part-at, part-same, part-length, laid-part}
 use Rattle.grouping.specs.Joining.{stageAt}
+use Rattle.stage_drops.specs.Working.{frontStage}
 use Rattle.stage_steps.specs.Putting.{Put}
 use Rattle.stage_steps.specs.Values.{valueCells, valueGates, ValueRoom, ValueBegun, GateRoom, GatesPut}
 use Rattle.stage_steps.proofs.PutLaws.{put-none, put-then, put-as}
@@ -115,11 +116,11 @@ pub record Axis (ks : List ℕ) (i : ℕ) (b : List ℕ) (n values : ℕ) : Type
 
 -- the values below k are done
 pub record Turn (m : ℕ) (ks : List ℕ) (c : ℕ) (w₀ net₀ : List ℕ) (r k next : ℕ) (w net : List ℕ) : Type 0 where
-  pub put : Put net₀ r (soFar m (stageAt ks w₀ 0 c) r k) net
-  pub count : next ≡ r + length (soFar m (stageAt ks w₀ 0 c) r k)
-  pub stage : stageAt ks w 0 c ≡ stageAt ks w₀ 0 c
+  pub put : Put net₀ r (soFar m (frontStage ks w₀) r k) net
+  pub count : next ≡ r + length (soFar m (frontStage ks w₀) r k)
+  pub stage : frontStage ks w ≡ frontStage ks w₀
   pub done : (q j : ℕ) → q < k → j < cells (without (singleton (lowest ks)) ks)
-      → at w (2 * c + q + card ks (lowest ks) * j) ≡ at (computed (without (singleton (lowest ks)) ks) (treeOf m (cofactorStage q (stageAt ks w₀ 0 c)))) j
+      → at w (2 * c + q + card ks (lowest ks) * j) ≡ at (computed (without (singleton (lowest ks)) ks) (treeOf m (cofactorStage q (frontStage ks w₀)))) j
   pub len : length w ≡ length w₀
 
 pub turn-none : (m : ℕ) (ks : List ℕ) (c : ℕ) (w net : List ℕ) (r : ℕ) → Turn m ks c w net r 0 r w net
@@ -127,7 +128,7 @@ turn-none m ks c w net r = record { put = put-none net r; count = sym (add-zero 
 
 module _ {m : ℕ} {ks : List ℕ} {c : ℕ} {w₀ net₀ : List ℕ} {r : ℕ} (h : Splits m ks c w₀ net₀ r) where
   abbrev x : Stage
-  x = stageAt ks w₀ 0 c
+  x = frontStage ks w₀
 
   abbrev b : List ℕ
   b = without (singleton (lowest ks)) ks
@@ -200,7 +201,7 @@ module _ {m : ℕ} {ks : List ℕ} {c : ℕ} {w₀ net₀ : List ℕ} {r : ℕ} 
             ∙ ap₂ (λ (l t : List ℕ). limited (record { lower = l; upper = t }))
             (ap (part w₁ (8 * c)) (sym cell-count) ∙ g .lows ∙ limits-at (part w 0 (values * n)) ∙ ap (λ (l : List ℕ). cofactor l) (ap (part w 0) all-cells ∙ ap (λ (z : Stage). z .limits .lower) (u .stage)))
             (ap₂ (λ (p q : ℕ). part w₁ (8 * c + p) q) (sym cell-count) (sym cell-count) ∙ g .highs ∙ limits-at (part w c (values * n))
-            ∙ ap (λ (l : List ℕ). cofactor l) (ap (part w c) all-cells ∙ ap (λ (z : Stage). z .limits .upper) (u .stage))))
+            ∙ ap (λ (l : List ℕ). cofactor l) (ap₂ (part w) (h .left .own .own) all-cells ∙ ap (λ (z : Stage). z .limits .upper) (u .stage))))
           where
             limited : Limits → Stage
             limited l = record { ks = b; limits = l }
@@ -301,7 +302,7 @@ module _ {m : ℕ} {ks : List ℕ} {c : ℕ} {w₀ net₀ : List ℕ} {r : ℕ} 
                   record {
                     put = subst (λ (i : ℕ). Put net₀ r (soFar m x r i) net₃) up (put-as (sym (so-far-next m x r k)) all-put);
                     count = subst (λ (i : ℕ). next′ ≡ r + length (soFar m x r i)) up (omega (arith, length-next m x r k next e, p .next, child-done .count, u .count));
-                    stage = ap₂ (λ (l t : List ℕ). limited (record { lower = l; upper = t })) (kept-part 0 (omega arith)) (kept-part c (omega arith)) ∙ u .stage;
+                    stage = ap₂ (λ (l t : List ℕ). limited (record { lower = l; upper = t })) (kept-part 0 (omega arith)) (kept-part (cells ks) (omega arith)) ∙ u .stage;
                     done =
                         λ q j l lt.
                         below-more (λ (q : ℕ). at w₃ (2 * c + q + v * j) ≡ at (computed b (treeOf m (cofactorStage q x))) j) k

@@ -9,8 +9,7 @@ use Rattle.rules.specs.Limits.{Limits}
 use Rattle.rules.specs.Tree.{Tree, size, records}
 use Rattle.rules.specs.Stage.{Stage, split, joining, chosen, computed, joinTree, choiceTree, treeOf}
 use Rattle.tables.specs.Part.{part, Shaped}
-use Rattle.grouping.specs.Joining.{stageAt}
-use Rattle.stage_drops.specs.Working.{Room, Proper, ForBoth}
+use Rattle.stage_drops.specs.Working.{Room, frontStage, Proper, ForBoth}
 use Rattle.stage_blocks.specs.Blocks.{stageOf}
 use Rattle.stage_steps.specs.Putting.{Put}
 
@@ -31,10 +30,10 @@ pub record Starts (m : ℕ) (ks w net : List ℕ) (r : ℕ) : Type 0 where
   pub shaped : Shaped ks
   pub few : (i : ℕ) → card ks i ≤ 8
   pub work : 16 * cells ks ≤ length w
-  pub proper : Proper m (stageAt ks w 0 (cells ks))
-  pub fits : Fits (treeOf m (stageAt ks w 0 (cells ks))) net r
+  pub proper : Proper m (frontStage ks w)
+  pub fits : Fits (treeOf m (frontStage ks w)) net r
 
--- a stage y with its conditions left, in a buffer with parts of c bytes
+-- a stage y with its conditions left, in a buffer with parts of c bytes, one for each cell
 pub record Left (m : ℕ) (y : Stage) (c : ℕ) (w : List ℕ) : Type 0 where
   pub own : Room w (y .ks) c
   pub few : (i : ℕ) → card (y .ks) i ≤ 8
@@ -46,13 +45,13 @@ pub record Left (m : ℕ) (y : Stage) (c : ℕ) (w : List ℕ) : Type 0 where
 pub record Joins (gate : Gate) (m : ℕ) (y : Stage) (s t c : ℕ) (w net : List ℕ) (r : ℕ) : Type 0 where
   pub left : Left m y c w
   pub chosen : chosen m y ≡ joining gate s t
-  pub tables : ForBoth gate m y s t c w
+  pub tables : ForBoth gate m y s t w
   pub fits : Fits (joinTree m (treeOf m) gate s t y) net r
 
 -- one that splits: its limits are parts 0 and 1
 pub record Splits (m : ℕ) (ks : List ℕ) (c : ℕ) (w net : List ℕ) (r : ℕ) : Type 0 where
-  pub left : Left m (stageAt ks w 0 c) c w
-  pub fits : Fits (choiceTree m (treeOf m) split (stageAt ks w 0 c)) net r
+  pub left : Left m (frontStage ks w) c w
+  pub fits : Fits (choiceTree m (treeOf m) split (frontStage ks w)) net r
 
 -- some limits are such that the stage joins, and whatever they are, their network is written
 abbrev pub CanJoin : Gate → ℕ → List ℕ → ℕ → ℕ → ℕ → List ℕ → List ℕ → ℕ → Type 0

@@ -9,15 +9,14 @@ use stage_steps::values;
 use tables::fill;
 use tables::moves;
 ghost use Rattle.rules.specs.Stage.{split, choiceTree, treeOf};
-ghost use Rattle.rules.specs.Cell.{cells};
-ghost use Rattle.grouping.specs.Joining.{stageAt};
+ghost use Rattle.stage_drops.specs.Working.{frontStage};
 ghost use Rattle.stages.specs.Staging.{Starts, Written, Splits, CanJoin, Joined};
 
 // Step 6: a stage for each value of the lowest condition, with a literal before it and gates behind it.
 // Their functions are collected in part 2.
 fn split(w: &mut [u8], network: &mut [u8], ks: [u8; PLACES], m: u8, c: usize, r: usize) -> usize
     requires { ⌜ Splits m ks c (now w) (now network) r ⌝ }
-    ensures { λ e. ⌜ Written ks (choiceTree m (treeOf m) split (stageAt ks (now (w .entry)) 0 c)) (now (w .entry)) (now (network .entry)) r e (now (w .exit)) (now (network .exit)) ⌝ }
+    ensures { λ e. ⌜ Written ks (choiceTree m (treeOf m) split (frontStage ks (now (w .entry)))) (now (w .entry)) (now (network .entry)) r e (now (w .exit)) (now (network .exit)) ⌝ }
 {
     let i = sets::lowest(ks);
     let b = sets::without(ks, sets::singleton(i));
@@ -62,7 +61,7 @@ fn join(
 // on: the next record. Its function is left at the front.
 pub fn stage(w: &mut [u8], network: &mut [u8], ks: [u8; PLACES], m: u8, r: usize) -> usize
     requires { ⌜ Starts m ks (now w) (now network) r ⌝ }
-    ensures { λ e. ⌜ Written ks (treeOf m (stageAt ks (now (w .entry)) 0 (cells ks))) (now (w .entry)) (now (network .entry)) r e (now (w .exit)) (now (network .exit)) ⌝ }
+    ensures { λ e. ⌜ Written ks (treeOf m (frontStage ks (now (w .entry)))) (now (w .entry)) (now (network .entry)) r e (now (w .exit)) (now (network .exit)) ⌝ }
 {
     let c = places::cell_count(ks);
     let left = stage_drops::drop_all(w, ks, c);
@@ -71,9 +70,10 @@ pub fn stage(w: &mut [u8], network: &mut [u8], ks: [u8; PLACES], m: u8, r: usize
         ends::spread(w, left, ks);
         return r + 1;
     }
-    let e = match stage_choice::choose(w, left, m, c) {
-        Choice::Split => split(w, network, left, m, c, r),
-        Choice::Join(gate, of) => join(w, network, left, m, c, gate, of, r),
+    let n = places::cell_count(left);
+    let e = match stage_choice::choose(w, left, m, n) {
+        Choice::Split => split(w, network, left, m, n, r),
+        Choice::Join(gate, of) => join(w, network, left, m, n, gate, of, r),
     };
     ends::spread(w, left, ks);
     e

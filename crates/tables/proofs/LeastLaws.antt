@@ -14,19 +14,15 @@ use Rattle.laws.proofs.LoopLaws.{card-read, over-steps}
 use Rattle.laws.proofs.OverLaws.{min-bound}
 use Rattle.laws.proofs.UnionLaws.{digit-below}
 use Rattle.tables.specs.Part.{part, Shaped}
-use Rattle.tables.specs.Line.{lineBest}
+use Rattle.tables.specs.Line.{lineBest, lineStart, Line}
 use Rattle.tables.proofs.LineLaws.{line-table}
 use Rattle.tables.proofs.OverLaws.{Counted, counted}
-use Rattle.tables.specs.Line.{lineStart, LineAt}
 
 -- a condition's step and cardinality, as they are computed
 pub record Axis (ks : List ℕ) (i stp crd : ℕ) : Type 0 where
   pub place : i < length ks
   pub step-is : stp ≡ step ks i
   pub card-is : crd ≡ getD ks i 0
-
-pub axis-of : (ks : List ℕ) (i stp : ℕ) → i < length ks → stp ≡ step ks i → Axis ks i stp (getD ks i 0)
-axis-of ks i stp h e = record { place = h; step-is = e; card-is = refl }
 
 -- cell v of the line through cell c lies within the table
 line-within : (stp crd count c v : ℕ) → 0 < stp → v < crd → 0 < stp * crd → c < stp * crd * count
@@ -42,29 +38,24 @@ module _ {ks : List ℕ} {i stp crd : ℕ} (shaped : Shaped ks) (x : Axis ks i s
   counts : Counted ks i stp crd (cells ks / (stp * crd))
   counts = counted ks i stp crd (cells ks) (shaped .some) (x .place) (x .step-is) (x .card-is) refl
 
-  steps : 0 < stp
+  pub steps : 0 < stp
   steps = rw (x .step-is) (step-pos ks i (shaped .some))
 
   card-as : crd ≡ card ks i
   card-as = x .card-is ∙ card-read ks i (x .place)
 
-  some : 0 < crd
+  pub some : 0 < crd
   some = rw card-as (card-pos ks i (shaped .some))
 
   within : (c v : ℕ) → c < cells ks → v < crd → c % stp + c / (stp * crd) * (stp * crd) + stp * v < cells ks
   within c v hc hv =
       omega (arith, counts .all, line-within stp crd (cells ks / (stp * crd)) c v steps hv (counts .size) (let e = counts .all in omega arith))
 
-  pub line-at : (w : List ℕ) (a c : ℕ) → a + cells ks ≤ length w → c < cells ks → LineAt w a c stp crd
-  line-at w a c h hc =
-      record {
-        line = record {
-          steps = steps;
-          some = some;
-          inside = λ v hv. omega (arith, within c v hc hv);
-        };
-        few = let f = shaped .few in omega (arith, counts .low);
-      }
+  pub block-low : stp * crd ≤ 1024
+  block-low = let f = shaped .few in omega (arith, counts .low)
+
+  pub line-at : (w : List ℕ) (a c : ℕ) → a + cells ks ≤ length w → c < cells ks → Line w (lineStart a c stp crd) stp crd
+  line-at w a c h hc = record { steps = steps; some = some; inside = λ v hv. omega (arith, within c v hc hv) }
 
   pub least-at : (w : List ℕ) (a c : ℕ) → c < cells ks → lineBest false w (lineStart a c stp crd) stp crd ≡ at (leastOver ks (singleton i) (part w a (cells ks))) c
   least-at w a c hc =

@@ -5,3 +5,5 @@ pub mod LineLaws
 pub mod OverLaws
 pub mod LeastLaws
 pub mod BelowLaws
+pub mod AlongLaws
+pub mod PackLaws

@@ -68,7 +68,7 @@ lines-apart a step o p v u h g ne e =
     let q : o + step * v ≡ p + step * u = omega arith in
     ne (sym (digit-mod step o v h) ∙ ap (λ (x : ℕ). x % step) q ∙ digit-mod step p u g)
 
-line-same : (greatest : Bool) (w w′ : List ℕ) (a step card : ℕ) → 0 < card → ((v : ℕ) → v < card → at w′ (a + step * v) ≡ at w (a + step * v)) → lineBest greatest w′ a step card ≡ lineBest greatest w a step card
+pub line-same : (greatest : Bool) (w w′ : List ℕ) (a step card : ℕ) → 0 < card → ((v : ℕ) → v < card → at w′ (a + step * v) ≡ at w (a + step * v)) → lineBest greatest w′ a step card ≡ lineBest greatest w a step card
 unfolding lineBest
 line-same greatest w w′ a step card p h =
     over-along (best greatest) (λ v. at w′ (a + step * v)) (λ v. at w (a + step * v)) (at w′ a) (at w a) card

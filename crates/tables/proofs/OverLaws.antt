@@ -29,7 +29,10 @@ step-rest (k ∷ ks) (suc i) = mul-assoc k (step ks i) (cells (drop i ks)) ∙ a
 pub record Counted (ks : List ℕ) (i stp crd count : ℕ) : Type 0 where
   pub step-is : stp ≡ step ks i
   pub card-is : crd ≡ card ks i
+  pub count-is : count ≡ cells (drop (suc i) ks)
   pub all : stp * crd * count ≡ cells ks
+  pub steps : 0 < stp
+  pub some : 0 < crd
   pub size : 0 < stp * crd
   pub low : stp * crd ≤ cells ks
 
@@ -38,6 +41,9 @@ counted ks i stp crd total p h es ec et =
     record {
       step-is = es;
       card-is = ec ∙ card-read ks i h;
+      count-is = quotient;
+      steps = rw es (step-pos ks i p);
+      some = rw (ec ∙ card-read ks i h) (card-pos ks i p);
       all = ap (λ (x : ℕ). stp * crd * x) quotient ∙ sym whole;
       size = size;
       low = rw block (step-le ks (suc i) p);
@@ -58,8 +64,8 @@ counted ks i stp crd total p h es ec et =
 pub counted-blocks : {ks : List ℕ} {i stp crd count : ℕ} (w : List ℕ) (a : ℕ) → Positive ks → Counted ks i stp crd count → a + cells ks ≤ length w → Blocks w a count stp crd
 counted-blocks {ks} {i} {stp} {crd} {count} w a p n h =
     record {
-      steps = rw (n .step-is) (step-pos ks i p);
-      some = rw (n .card-is) (card-pos ks i p);
+      steps = n .steps;
+      some = n .some;
       more = go count (n .all);
       inside = let e = n .all in omega arith;
     }

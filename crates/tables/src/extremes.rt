@@ -4,9 +4,10 @@ use rules::PLACES;
 ghost use Prim.Native.Nat.{_+_, _*_, _≤_, _<_};
 ghost use mathlib.Core.Path.{_≡_};
 ghost use lib.ListN.{length};
+ghost use Rattle.rules.specs.Bytes.{tabulate};
 ghost use Rattle.rules.specs.Cell.{cells, singleton, over};
 ghost use Rattle.tables.specs.Part.{part, Laid, Shaped};
-ghost use Rattle.tables.specs.Line.{best, lineBest, Line, Spread, Block, BlockSet, Blocks, alongLines};
+ghost use Rattle.tables.specs.Line.{best, lineBest, Line, Spread, Block, BlockSet, Blocks, alongLines, lineExtremes};
 
 pub fn extreme(greatest: bool, a: u8, b: u8) -> u8
     ensures { λ r. ⌜ r ≡ best greatest a b ⌝ }
@@ -59,6 +60,36 @@ fn blocks(w: &mut [u8], greatest: bool, a: usize, count: usize, step: usize, car
     let block = step * card;
     for b in 0..count {
         lines(w, greatest, a + block * b, step, card);
+    }
+}
+
+// The extremes along the lines of a block, one for each line, at `to`.
+fn pack_lines(w: &mut [u8], greatest: bool, a: usize, to: usize, step: usize, card: usize)
+    requires { ⌜ Block (now w) a step card × (to ≤ a) ⌝ }
+    ensures { λ _. ⌜ Laid (now (w .entry)) to (tabulate step (λ o. lineBest greatest (now (w .entry)) (a + o) step card)) step (now (w .exit)) ⌝ }
+{
+    for o in 0..step {
+        w[to + o] = line_extreme(w, greatest, a + o, step, card);
+    }
+}
+
+// The extremes along the lines of a table of `count` blocks at a, one for each line, at `to`. The table may lie
+// there: what is written stands before every line that is still to be read.
+pub fn pack_blocks(
+    w: &mut [u8],
+    greatest: bool,
+    a: usize,
+    to: usize,
+    count: usize,
+    step: usize,
+    card: usize,
+)
+    requires { ⌜ Blocks (now w) a count step card × (to ≤ a) ⌝ }
+    ensures { λ _. ⌜ Laid (now (w .entry)) to (lineExtremes greatest (now (w .entry)) a step card count) (step * count) (now (w .exit)) ⌝ }
+{
+    let block = step * card;
+    for b in 0..count {
+        pack_lines(w, greatest, a + block * b, to + step * b, step, card);
     }
 }
 

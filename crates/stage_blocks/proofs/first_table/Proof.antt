@@ -13,11 +13,8 @@ mul-greatest-above c = search needs
 mul-greatest-above-2 : tie.Need-mul-greatest-above-2
 mul-greatest-above-2 c = search needs
 
-cell-count-requires : tie.Need-cell-count-requires
-cell-count-requires c κs = search needs
-
 greatest-above-requires : tie.Need-greatest-above-requires
-greatest-above-requires c κs = first-above (c .before .before .before .before .pre) (c .cell-count .ensures)
+greatest-above-requires c κs = first-above (c .before .before .before .pre)
 
 mul-lay-limits : tie.Need-mul-lay-limits
 mul-lay-limits c = search needs
@@ -26,14 +23,18 @@ mul-lay-limits-2 : tie.Need-mul-lay-limits-2
 mul-lay-limits-2 c = search needs
 
 lay-limits-requires : tie.Need-lay-limits-requires
-lay-limits-requires c κs = first-limits (c .before .before .before .before .before .before .before .before .pre) (c .before .before .before .before .cell-count .ensures) (c .before .before .before .before .before .before .without .ensures) (c .before .before .before .greatest-above .ensures)
+lay-limits-requires c κs =
+    let d = c .before .before .before .before .before in
+    first-limits (d .before .before .pre) (d .without .ensures) (c .before .before .before .greatest-above .ensures)
 
 same-length : tie.Need-same-length
 same-length c = search needs
 
 returns : tie.Need-returns
 returns c =
-    first-laid (c .before .before .before .before .before .before .before .before .before .before .before .pre) (c .before .before .before .before .before .before .before .cell-count .ensures) (c .before .before .before .before .before .before .before .before .before .without .ensures) (c .before .before .before .before .before .before .greatest-above .ensures) (c .before .before .before .before .before .before .before .before .before .before .before .args .gate) (c .before .before .lay-limits .ensures)
+    let d = c .before .before .before .before .before .before .before .before in
+    let b = d .before .before in
+    first-laid (b .pre) (d .without .ensures) (c .before .before .before .before .before .before .greatest-above .ensures) (b .args .gate) (c .before .before .lay-limits .ensures)
 
 pub first-table-spec : {M : Type 1} → statement M
 first-table-spec =
@@ -42,7 +43,6 @@ first-table-spec =
     without-requires
     mul-greatest-above
     mul-greatest-above-2
-    cell-count-requires
     greatest-above-requires
     mul-lay-limits
     mul-lay-limits-2

@@ -19,17 +19,14 @@ mul-combine c = search needs
 mul-combine-2 : tie.Need-mul-combine-2
 mul-combine-2 c = search needs
 
-cell-count-requires : tie.Need-cell-count-requires
-cell-count-requires c κs = search needs
-
 combine-requires : tie.Need-combine-requires
-combine-requires c κs = joined-combine (c .before .before .before .before .before .before .before .pre) (c .before .before .before .before .moved .ensures) (c .cell-count .ensures)
+combine-requires c κs = joined-combine (c .before .before .before .before .before .before .pre) (c .before .before .before .moved .ensures)
 
 same-length : tie.Need-same-length
 same-length c = search needs
 
 returns : tie.Need-returns
-returns c = joined-laid (c .before .before .before .before .before .before .before .before .before .before .pre) (c .before .before .before .before .before .before .before .moved .ensures) (c .before .before .before .cell-count .ensures) (c .before .before .before .before .before .before .before .before .before .before .args .gate) (c .before .before .combine .ensures)
+returns c = let b = c .before .before .before .before .before .before .before .before .before in joined-laid (b .pre) (c .before .before .before .before .before .before .moved .ensures) (b .args .gate) (c .before .before .combine .ensures)
 
 pub joined-spec : {M : Type 1} → statement M
 joined-spec =
@@ -40,7 +37,6 @@ joined-spec =
     moved-requires
     mul-combine
     mul-combine-2
-    cell-count-requires
     combine-requires
     same-length
     returns)

@@ -13,9 +13,6 @@ lay-requires c κs = search needs
 enum-told-2 : tie.Need-enum-told-2
 enum-told-2 c = search needs
 
-cell-count-requires : tie.Need-cell-count-requires
-cell-count-requires c κs = search needs
-
 sub-complement : tie.Need-sub-complement
 sub-complement c = search needs
 
@@ -23,9 +20,7 @@ mul-complement : tie.Need-mul-complement
 mul-complement c = search needs
 
 complement-requires : tie.Need-complement-requires
-complement-requires c κs =
-    let b = c .before .before .before .before .before in
-    exchange-upper (b .pre .0) (b .pre .2) (b .pre .3) (c .before .cell-count .ensures)
+complement-requires c κs = let b = c .before .before .before .before in exchange-upper (b .pre .0) (b .pre .2) (b .pre .3)
 
 sub-complement-2 : tie.Need-sub-complement-2
 sub-complement-2 c = search needs
@@ -34,9 +29,7 @@ mul-complement-2 : tie.Need-mul-complement-2
 mul-complement-2 c = search needs
 
 complement-requires-2 : tie.Need-complement-requires-2
-complement-requires-2 c κs =
-    let b = c .before .before .before .before .before .before .before .before .before in
-    exchange-lower (b .pre .0) (b .pre .2) (b .pre .3) (c .before .before .before .before .before .cell-count .ensures) (c .before .before .before .complement .ensures)
+complement-requires-2 c κs = let b = c .before .before .before .before .before .before .before .before in exchange-lower (b .pre .0) (b .pre .2) (b .pre .3) (c .before .before .before .complement .ensures)
 
 mul-lay : tie.Need-mul-lay
 mul-lay c = search needs
@@ -46,8 +39,9 @@ mul-lay-2 c = search needs
 
 lay-requires-2 : tie.Need-lay-requires-2
 lay-requires-2 c κs =
-    let b = c .before .before .before .before .before .before .before .before .before .before .before .before .before in
-    exchanged-room (b .pre .0) (b .pre .2) (b .pre .3) (c .before .before .before .before .before .before .before .before .before .cell-count .ensures) (c .before .before .before .before .before .before .before .complement .ensures) (c .before .before .before .complement2 .ensures)
+    let d = c .before .before .before .before .before .before .before in
+    let b = d .before .before .before .before .before in
+    exchanged-room (b .pre .0) (b .pre .2) (b .pre .3) (d .complement .ensures) (c .before .before .before .complement2 .ensures)
 
 same-length : tie.Need-same-length
 same-length c = search needs
@@ -62,8 +56,10 @@ same-length-2 c = search needs
 
 returns-2 : tie.Need-returns-2
 returns-2 c =
-    let b = c .before .before .before .before .before .before .before .before .before .before .before .before .before .before .before .before in
-    laid-gate (b .args .m) (b .args .low) (b .args .high) (c .before .before .before .before .before .before .before .before .before .before .before .before .before .enum-told2 .given .1) (laid-min (b .pre .0) (b .pre .2) (b .pre .3) (c .before .before .before .before .before .before .before .before .before .before .before .before .cell-count .ensures) (c .before .before .before .before .before .before .before .before .before .before .complement .ensures) (c .before .before .before .before .before .before .complement2 .ensures) (c .before .before .lay2 .ensures))
+    let d = c .before .before .before .before .before .before .before .before .before .before in
+    let b = d .before .before .before .before .before in
+    laid-gate (b .args .m) (b .args .low) (b .args .high) (d .before .before .enum-told2 .given .1)
+    (laid-min (b .pre .0) (b .pre .2) (b .pre .3) (d .complement .ensures) (c .before .before .before .before .before .before .complement2 .ensures) (c .before .before .lay2 .ensures))
 
 pub lay-limits-spec : {M : Type 1} → statement M
 lay-limits-spec =
@@ -72,7 +68,6 @@ lay-limits-spec =
     enum-told
     lay-requires
     enum-told-2
-    cell-count-requires
     sub-complement
     mul-complement
     complement-requires

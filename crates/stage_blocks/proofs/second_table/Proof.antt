@@ -5,9 +5,6 @@ use Rattle.stage_blocks.proofs.BlockLaws.{second-moved, second-exchange
 use Rattle.stage_blocks.proofs.second_table.Statement.{statement}
 use Rattle.stage_blocks.proofs.second_table.Tie as tie
 
-cell-count-requires : tie.Need-cell-count-requires
-cell-count-requires c κs = search needs
-
 without-requires : tie.Need-without-requires
 without-requires c κs = search needs
 
@@ -18,7 +15,7 @@ mul-moved-2 : tie.Need-mul-moved-2
 mul-moved-2 c = search needs
 
 moved-requires : tie.Need-moved-requires
-moved-requires c κs = second-moved (c .before .before .before .before .pre)
+moved-requires c κs = second-moved (c .before .before .before .pre)
 
 mul-exchange-block : tie.Need-mul-exchange-block
 mul-exchange-block c = search needs
@@ -27,34 +24,35 @@ mul-exchange-block-2 : tie.Need-mul-exchange-block-2
 mul-exchange-block-2 c = search needs
 
 exchange-block-requires : tie.Need-exchange-block-requires
-exchange-block-requires c κs = second-exchange (c .before .before .before .before .before .before .before .before .pre) (c .before .before .before .before .before .before .cell-count .ensures) (c .before .before .before .moved .ensures)
+exchange-block-requires c κs = second-exchange (c .before .before .before .before .before .before .before .pre) (c .before .before .before .moved .ensures)
 
 mul-greatest-above : tie.Need-mul-greatest-above
 mul-greatest-above c = search needs
 
 greatest-above-requires : tie.Need-greatest-above-requires
-greatest-above-requires c κs = second-above (c .before .before .before .before .before .before .before .before .before .before .before .before .pre) (c .before .before .before .before .before .before .before .before .before .before .cell-count .ensures) (c .before .before .before .before .before .before .before .moved .ensures) (c .before .before .before .exchange-block .ensures)
+greatest-above-requires c κs = second-above (c .before .before .before .before .before .before .before .before .before .before .before .pre) (c .before .before .before .before .before .before .before .moved .ensures) (c .before .before .before .exchange-block .ensures)
 
 mul-lay-limits : tie.Need-mul-lay-limits
 mul-lay-limits c = search needs
 
 lay-limits-requires : tie.Need-lay-limits-requires
 lay-limits-requires c κs =
-    second-limits (c .before .before .before .before .before .before .before .before .before .before .before .before .before .before .before .before .pre) (c .before .before .before .before .before .before .before .before .before .before .before .before .before .before .cell-count .ensures) (c .before .before .before .before .before .before .before .before .before .before .before .moved .ensures) (c .before .before .before .before .before .before .before .exchange-block .ensures) (c .before .before .before .before .before .before .before .before .before .before .before .before .before .without .ensures) (c .before .before .before .greatest-above .ensures)
+    let d = c .before .before .before .before .before .before .before .before .before .before .before .before .before in
+    second-limits (d .before .before .pre) (c .before .before .before .before .before .before .before .before .before .before .before .moved .ensures) (c .before .before .before .before .before .before .before .exchange-block .ensures) (d .without .ensures) (c .before .before .before .greatest-above .ensures)
 
 same-length : tie.Need-same-length
 same-length c = search needs
 
 returns : tie.Need-returns
 returns c =
-    let b = c .before .before .before .before .before .before .before .before .before .before .before .before .before .before .before .before .before .before .before in
-    second-laid (b .pre) (c .before .before .before .before .before .before .before .before .before .before .before .before .before .before .before .before .before .cell-count .ensures) (c .before .before .before .before .before .before .before .before .before .before .before .before .before .before .moved .ensures) (c .before .before .before .before .before .before .before .before .before .before .exchange-block .ensures) (c .before .before .before .before .before .before .before .before .before .before .before .before .before .before .before .before .without .ensures) (c .before .before .before .before .before .before .greatest-above .ensures) (b .args .gate) refl (c .before .before .lay-limits .ensures)
+    let d = c .before .before .before .before .before .before .before .before .before .before .before .before .before .before .before .before in
+    let b = d .before .before in
+    second-laid (b .pre) (c .before .before .before .before .before .before .before .before .before .before .before .before .before .before .moved .ensures) (c .before .before .before .before .before .before .before .before .before .before .exchange-block .ensures) (d .without .ensures) (c .before .before .before .before .before .before .greatest-above .ensures) (b .args .gate) refl (c .before .before .lay-limits .ensures)
 
 pub second-table-spec : {M : Type 1} → statement M
 second-table-spec =
     tie.close
     (tie.spec
-    cell-count-requires
     without-requires
     mul-moved
     mul-moved-2

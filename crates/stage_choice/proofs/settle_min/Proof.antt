@@ -10,7 +10,7 @@ mul-copy : tie.Need-mul-copy
 mul-copy c = search needs
 
 copy-requires : tie.Need-copy-requires
-copy-requires c κs = let b = c .before .before in behind (b .pre) (2 * b .args .c) 0 (omega arith) (omega arith)
+copy-requires c κs = let b = c .before .before in behind (b .pre) (2 * b .args .n) 0 (omega arith) (omega arith)
 
 mul-copy-2 : tie.Need-mul-copy-2
 mul-copy-2 c = search needs
@@ -19,7 +19,7 @@ mul-copy-3 : tie.Need-mul-copy-3
 mul-copy-3 c = search needs
 
 copy-requires-2 : tie.Need-copy-requires-2
-copy-requires-2 c κs = let b = c .before .before .before .before .before .before in behind (spaced-same (search needs) (b .pre)) (6 * b .args .c) (4 * b .args .c) (omega arith) (omega arith)
+copy-requires-2 c κs = let b = c .before .before .before .before .before .before in behind (spaced-same (search needs) (b .pre)) (6 * b .args .n) (4 * b .args .n) (omega arith) (omega arith)
 
 mul-copy-4 : tie.Need-mul-copy-4
 mul-copy-4 c = search needs
@@ -28,7 +28,7 @@ mul-copy-5 : tie.Need-mul-copy-5
 mul-copy-5 c = search needs
 
 copy-requires-3 : tie.Need-copy-requires-3
-copy-requires-3 c κs = let b = c .before .before .before .before .before .before .before .before .before .before in behind (spaced-same (search needs) (b .pre)) (7 * b .args .c) (5 * b .args .c) (omega arith) (omega arith)
+copy-requires-3 c κs = let b = c .before .before .before .before .before .before .before .before .before .before in behind (spaced-same (search needs) (b .pre)) (7 * b .args .n) (5 * b .args .n) (omega arith) (omega arith)
 
 same-length : tie.Need-same-length
 same-length c = search needs

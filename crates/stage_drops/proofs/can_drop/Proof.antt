@@ -1,59 +1,68 @@
 -- `stage_drops::can_drop` meets its contract.
-use mathlib.Core.Path.{_≡_, refl}
+use mathlib.Core.Path.{_≡_, sym, _∙_}
+use mathlib.Core.List.{List}
 use Prim.Native.Nat.{ℕ, _-_, _≤_, _<_}
 use native.Mathlib.Omega.{arith}
-use lib.ListN.{getD}
-use mathlib.Core.Bool.{true}
-use Rattle.tables.proofs.LeastLaws.{Axis, line-at}
+use Rattle.rules.specs.Cell.{cells}
+use Rattle.tables.proofs.AlongLaws.{walks-line, walks-room, Begins, begins, Scan, scan-none, scan-more}
 use Rattle.tables.proofs.BelowLaws.{test-refuses, test-passes}
-use Rattle.stage_drops.proofs.CanDropLaws.{dropCell, drop-passed, drop-failed}
-use borrow.Author.Count.{below-more}
+use Rattle.stage_drops.proofs.CanDropLaws.{dropCell, drop-at, drop-passed, drop-failed, limits-at}
 use borrow.Author.Needs.{needs}
 use Rattle.stage_drops.proofs.can_drop.Statement.{statement}
 use Rattle.stage_drops.proofs.can_drop.Tie as tie
 
+-- whatever places the step is of
 abbrev Inv-loop : tie.InvT-loop
-Inv-loop w i low high n step card c₀ c = (c ≤ n) × ((k : ℕ) → k < c → dropCell w low high step card k ≡ true)
+Inv-loop w i n step on₀ c₀ on c = (c ≤ n) × ((ks : List ℕ) → Begins ks i n on₀ → Scan ks i (dropCell w ks i n) c on)
 
 abbrev μ-loop : tie.MeasureT-loop
-μ-loop w i low high n step card c₀ c = n - c
+μ-loop w i n step on₀ c₀ on c = n - c
 
-cell-count-requires : tie.Need-cell-count-requires Inv-loop μ-loop
-cell-count-requires c κs = search needs
+array-read-first : tie.Need-array-read-first Inv-loop μ-loop
+array-read-first c = search needs
 
-step-requires : tie.Need-step-requires Inv-loop μ-loop
-step-requires c κs = search needs
+cast-first : tie.Need-cast-first Inv-loop μ-loop
+cast-first c = search needs
 
-array-read-card : tie.Need-array-read-card Inv-loop μ-loop
-array-read-card c = search needs
-
-cast-card : tie.Need-cast-card Inv-loop μ-loop
-cast-card c = search needs
-
--- the step and the cardinality of the condition
-axis : (c : tie.After-step Inv-loop μ-loop) → Axis (c .before .before .before .args .t2) (c .before .before .before .args .i) (c .step .result) (getD (c .before .before .before .args .t2) (c .before .before .before .args .i) 0)
-axis c = record { place = search needs; step-is = c .step .ensures; card-is = refl }
+first-requires : tie.Need-first-requires Inv-loop μ-loop
+first-requires c κs = search needs
 
 loop-holds : tie.Need-loop-holds Inv-loop μ-loop
-loop-holds c = (search needs, λ k h. absurd (omega arith))
+loop-holds c = let s = c .before .before .args in (search needs, λ ks x. scan-none (dropCell (s .w .now) ks (s .i) (s .n)) x)
 
-add-below-at : tie.Need-add-below-at Inv-loop μ-loop
-add-below-at c = search needs
+-- the walk at its first cell
+begun : (c : tie.After-first Inv-loop μ-loop) → let s = c .before .before .args in Begins (s .t2) (s .i) (s .n) (c .first .result)
+begun c = let b = c .before .before in begins (b .pre .room .shaped) (b .pre .room .own) (search needs) (b .pre .step-is) (c .first .ensures)
+
+-- where the loop is
+at-cell : (c : tie.In-loop Inv-loop μ-loop) → let s = c .before .before .before .before .args in let l = c .before .loop in Scan (s .t2) (s .i) (dropCell (s .w .now) (s .t2) (s .i) (s .n)) (l .c) (l .on)
+at-cell c = c .before .loop .inv .1 (c .before .before .before .before .args .t2) (begun (c .before .before))
+
+inside : (c : tie.In-loop Inv-loop μ-loop) → c .before .loop .c < cells (c .before .before .before .before .args .t2)
+inside c = let e = c .before .before .before .before .pre .room .own in omega arith
 
 shared-slice-read-below-at : tie.Need-shared-slice-read-below-at Inv-loop μ-loop
-shared-slice-read-below-at c = search needs
+shared-slice-read-below-at c = let r = c .before .before .before .before .before .pre .room .room in omega arith
 
 below-at-requires : tie.Need-below-at-requires Inv-loop μ-loop
 below-at-requires c κs =
-    let p = c .before .before .before .before .before .before .pre .1 in
-    line-at (p .shaped) (axis (c .before .before .before)) _ _ (c .before .before .loop .c) (p .second) (omega arith)
+    let t = c .before in
+    let p = t .before .before .before .before .pre .room in
+    walks-line (p .shaped) (at-cell t .walks) _ _ (let e = p .own in let r = p .room in omega arith) (inside t)
 
 returns : tie.Need-returns Inv-loop μ-loop
 returns c =
-    let b = c .before .before .before .before .before in
-    let s = b .before .before .before .args in
-    drop-failed (s .w .now) (s .low) (s .high) (b .before .before .before .pre .1 .shaped) (axis b) (c .before .before .before .before .loop .c) (omega arith)
-    (test-refuses (c .before .below-at .ensures) (c .if1 .taken))
+    let t = c .before .before .before in
+    let b = t .before .before .before .before in
+    let s = b .args in
+    drop-failed (s .w .now) (s .t2) (s .i) (s .n) (t .before .loop .c) (inside t)
+    (sym (drop-at (s .w .now) (s .t2) (s .i) (s .n) (b .pre .room .shaped) (at-cell t .walks) (inside t)) ∙ test-refuses (c .before .below-at .ensures) (c .if1 .taken))
+    ∙ limits-at (s .t2) (s .w .now) (s .i) (b .pre .room .own)
+
+next-requires : tie.Need-next-requires Inv-loop μ-loop
+next-requires c κs =
+    let t = c .before .before .before in
+    walks-room (t .before .before .before .before .pre .room .shaped) (at-cell t .walks)
 
 add-c : tie.Need-add-c Inv-loop μ-loop
 add-c c = search needs
@@ -63,14 +72,25 @@ loop-less c = search needs
 
 loop-again : tie.Need-loop-again Inv-loop μ-loop
 loop-again c =
-    let l = c .before .before .before .before .loop in
-    (search needs, below-more _ (l .c) (l .inv .1) (test-passes (c .before .below-at .ensures) (c .if1 .left)))
+    let t = c .before .before .before .before in
+    let s = t .before .before .before .before .args in
+    let l = t .before .loop in (
+      search needs,
+      λ ks x.
+          let a = l .inv .1 ks x in
+          let h : l .c < cells ks = let e = x .count in omega arith in
+          scan-more (dropCell (s .w .now) ks (s .i) (s .n)) (x .shaped) a
+          (sym (drop-at (s .w .now) ks (s .i) (s .n) (x .shaped) (a .walks) h) ∙ test-passes (c .before .before .below-at .ensures) (c .before .if1 .left))
+          (c .next .ensures),
+    )
 
 returns-2 : tie.Need-returns-2 Inv-loop μ-loop
 returns-2 c =
-    let b = c .before .before in
-    let s = b .before .before .before .args in
-    drop-passed (s .w .now) (s .low) (s .high) (b .before .before .before .pre .1 .shaped) (axis b) (omega arith) (c .before .loop .inv .1)
+    let b = c .before .before .before .before in
+    let s = b .args in
+    let e = b .pre .room .own in
+    drop-passed (s .w .now) (s .t2) (s .i) (s .n) (omega arith) (c .before .loop .inv .1 (s .t2) (begun (c .before .before)) .passed)
+    ∙ limits-at (s .t2) (s .w .now) (s .i) e
 
 pub can-drop-spec : {M : Type 1} → statement M
 can-drop-spec =
@@ -78,15 +98,14 @@ can-drop-spec =
     (tie.spec
     Inv-loop
     μ-loop
-    cell-count-requires
-    step-requires
-    array-read-card
-    cast-card
+    array-read-first
+    cast-first
+    first-requires
     loop-holds
-    add-below-at
     shared-slice-read-below-at
     below-at-requires
     returns
+    next-requires
     add-c
     loop-less
     loop-again

@@ -1,49 +1,68 @@
 -- `stage_drops::drop_condition` meets its contract.
-use mathlib.Core.Path.{ap, _∙_}
-use Prim.Native.Nat.{ℕ}
+use Prim.Native.Nat.{_*_, _/_, _≤_}
+use mathlib.Core.Path.{_≡_, refl}
+use native.Mathlib.Omega.{arith}
+use lib.ListN.{getD}
 use borrow.Author.Needs.{needs}
-use Rattle.rules.specs.Cell.{without}
-use Rattle.stage_drops.proofs.DropLaws.{first-spare, second-spare, both-reduced}
+use Rattle.tables.proofs.OverLaws.{Counted, counted, counted-blocks}
+use Rattle.tables.proofs.PackLaws.{packed-low}
+use Rattle.stage_drops.proofs.DropLaws.{both-packed}
 use Rattle.stage_drops.proofs.drop_condition.Statement.{statement}
 use Rattle.stage_drops.proofs.drop_condition.Tie as tie
+use Rattle.stage_drops.proofs.drop_condition.Reads as reads
+use Rattle.stage_drops.proofs.drop_condition.Lts as lts
+use Rattle.tables.proofs.extremes.pack_blocks.Reads as pack-blocks-reads
 
-mul-reduce : tie.Need-mul-reduce
-mul-reduce c = search needs
+array-read-card : tie.Need-array-read-card
+array-read-card c = search needs
 
-reduce-requires : tie.Need-reduce-requires
-reduce-requires c κs = let p = c .before .before .pre in (p .0, p .1 .shaped, first-spare (p .1))
+cast-card : tie.Need-cast-card
+cast-card c = search needs
 
-mul-reduce-2 : tie.Need-mul-reduce-2
-mul-reduce-2 c = search needs
+-- what is counted
+counts : (c : lts.Start (pack-blocks-reads.Asked, pack-blocks-reads.Learnt) reads.Pre reads.Post) → let s = c .args in Counted (s .t2) (s .i) (s .step) (getD (s .t2) (s .i) 0) (s .n / (s .step * getD (s .t2) (s .i) 0))
+counts c = let p = c .pre in counted (c .args .t2) (c .args .i) _ _ _ (p .room .shaped .some) (search needs) (p .step-is) refl (p .room .own)
 
-reduce-requires-2 : tie.Need-reduce-requires-2
-reduce-requires-2 c κs =
-    let p = c .before .before .before .before .before .before .pre in
-    (p .0, p .1 .shaped, second-spare (p .1) (search needs))
+mul-count : tie.Need-mul-count
+mul-count c = let few = c .before .pre .room .shaped .few in omega (arith, counts (c .before) .low)
 
-singleton-requires : tie.Need-singleton-requires
-singleton-requires c κs = search needs
+div-count : tie.Need-div-count
+div-count c = counts (c .before) .size
 
-without-requires : tie.Need-without-requires
-without-requires c κs = search needs
+pack-blocks-requires : tie.Need-pack-blocks-requires
+pack-blocks-requires c κs =
+    let b = c .before .before in
+    let p = b .pre .room in
+    (counted-blocks _ _ (p .shaped .some) (counts b) (let e = p .own in let r = p .room in omega arith), search needs)
+
+mul-pack-blocks : tie.Need-mul-pack-blocks
+mul-pack-blocks c = let b = c .before .before .before .before .before .before in let few = b .pre .room .shaped .few in omega (arith, packed-low (counts b))
+
+pack-blocks-requires-2 : tie.Need-pack-blocks-requires-2
+pack-blocks-requires-2 c κs =
+    let b = c .before .before .before .before .before .before in
+    let p = b .pre .room in
+    let e = p .own in
+    (counted-blocks _ _ (p .shaped .some) (counts b) (let l = c .before .before .before .pack-blocks .ensures .len in let r = p .room in omega arith), omega (arith, packed-low (counts b)))
 
 same-length : tie.Need-same-length
 same-length c = search needs
 
 returns : tie.Need-returns
 returns c =
-    let b = c .before .before .before .before .before .before .before .before .before .before .before in
-    both-reduced (b .args .i) (b .pre .1) (c .without .ensures ∙ ap (λ (k : ℕ). without k (b .args .ks)) (c .before .singleton .ensures)) (c .before .before .before .before .before .before .before .before .reduce .ensures) (c .before .before .before .before .reduce2 .ensures)
+    let b = c .before .before .before .before .before .before .before .before .before in
+    both-packed (b .pre .room) (search needs) (counts b) (c .before .before .before .before .before .before .pack-blocks .ensures) (c .before .before .pack-blocks2 .ensures)
 
 pub drop-condition-spec : {M : Type 1} → statement M
 drop-condition-spec =
     tie.close
     (tie.spec
-    mul-reduce
-    reduce-requires
-    mul-reduce-2
-    reduce-requires-2
-    singleton-requires
-    without-requires
+    array-read-card
+    cast-card
+    mul-count
+    div-count
+    pack-blocks-requires
+    mul-pack-blocks
+    pack-blocks-requires-2
     same-length
     returns)

@@ -12,7 +12,7 @@ array-read-if1 c = search needs
 returns : tie.Need-returns
 returns c =
     let b = c .before .before in
-    drop-absent (b .args .t2) (b .args .w .now) (b .args .i) (b .args .c) (is-absent (b .args .t2) (b .args .i) (search needs) (c .if1 .taken))
+    drop-absent (b .args .t2) (b .args .w .now) (b .args .i) (is-absent (b .args .t2) (b .args .i) (search needs) (c .if1 .taken))
 
 can-drop-requires : tie.Need-can-drop-requires
 can-drop-requires c κs = search needs
@@ -25,8 +25,9 @@ same-length c = search needs
 
 returns-2 : tie.Need-returns-2
 returns-2 c =
-    let b = c .before .before .before .before .before .before .before .before .before in
-    drop-one (b .args .t2) (b .args .w .now) (b .args .i) (b .args .c) (is-present (b .args .t2) (b .args .i) (search needs) (c .before .before .before .before .before .before .before .if1 .left)) (sym (c .before .before .before .before .before .can-drop .ensures) ∙ c .before .before .before .before .if2 .taken) (c .before .before .drop-condition .ensures)
+    let t = c .before .before .before .before in
+    let b = t .before .before .before .before .before in
+    drop-one (b .args .t2) (b .args .w .now) (b .args .i) (is-present (b .args .t2) (b .args .i) (search needs) (t .before .before .before .if1 .left)) (sym (t .before .can-drop .ensures) ∙ t .if2 .taken) (c .before .before .drop-condition .ensures)
 
 same-length-2 : tie.Need-same-length-2
 same-length-2 c = search needs
@@ -34,7 +35,7 @@ same-length-2 c = search needs
 returns-3 : tie.Need-returns-3
 returns-3 c =
     let b = c .before .before .before .before .before in
-    drop-crossed (b .args .t2) (b .args .w .now) (b .args .i) (b .args .c) (sym (c .before .can-drop .ensures) ∙ c .if2 .left)
+    drop-crossed (b .args .t2) (b .args .w .now) (b .args .i) (sym (c .before .can-drop .ensures) ∙ c .if2 .left)
 
 pub drop-if-possible-spec : {M : Type 1} → statement M
 drop-if-possible-spec =

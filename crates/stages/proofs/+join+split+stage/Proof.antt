@@ -6,10 +6,10 @@ use Prim.Native.Nat.{ℕ, _+_, _-_, _*_, _≤_, _<_}
 use native.Mathlib.Omega.{arith}
 use lib.ListN.{length, getD}
 use borrow.Author.Needs.{needs}
-use Rattle.rules.specs.Cell.{cells, card, width, singleton, without}
+use Rattle.rules.specs.Cell.{card, width, singleton, without}
 use Rattle.rules.specs.Stage.{treeOf}
 use Rattle.laws.proofs.TreeLaws.{size-pos}
-use Rattle.grouping.specs.Joining.{stageAt}
+use Rattle.stage_drops.specs.Working.{frontStage}
 use Rattle.laws.proofs.LoopLaws.{card-read}
 use Rattle.stages.specs.Staging.{Written, Splits}
 use Rattle.stages.proofs.SplitStageLaws.{Axis, Turn, turn-none, lowest-below, all-cells, value-room, value-starts, value-fewer, value-back, gate-room, value-spread, turn-more, copy-room, split-whole}
@@ -375,22 +375,27 @@ stage-width-requires t c κs = tt
 
 stage-leaf-requires : (t : ℕ) → stage-lts.Need-leaf-requires (stage-claims t) (stage-at t) stage.Post
 stage-leaf-requires t c κs =
-    let n : width (c .before .before .before .before .before .before .drop-all .result) < 2 = search needs in
-    leaf-room (c .before .before .before .before .before .before .before .before .before .before .before .pre .1) (c .before .before .before .before .before .before .before .before .cell-count .ensures) (c .before .before .before .before .before .before .drop-all .ensures) n
+    let d = c .before .before .before .before .before .before in
+    let n : width (d .drop-all .result) < 2 = search needs in
+    leaf-room (d .before .before .before .before .before .pre .1) (d .drop-all .ensures) n
 
 stage-spread-requires : (t : ℕ) → stage-lts.Need-spread-requires (stage-claims t) (stage-at t) stage.Post
-stage-spread-requires t c κs = spread-room (c .before .before .before .before .before .before .before .before .before .before .before .before .before .before .before .pre .1) (c .before .before .before .before .before .before .before .before .before .before .before .before .cell-count .ensures) (c .before .before .before .before .before .before .before .before .before .before .drop-all .ensures) refl
+stage-spread-requires t c κs =
+    let d = c .before .before .before .before .before .before .before .before .before .before in
+    spread-room (d .before .before .before .before .before .pre .1) (d .drop-all .ensures) refl
 
 stage-add-result : (t : ℕ) → stage-lts.Need-add-result (stage-claims t) (stage-at t) stage.Post
 stage-add-result t c =
-    let s = c .before .before .before .before .before .before .before .before .before .before .before .before .before .before .before .before .before .before .pre .1 .fits .numbers in
-    let p = size-pos (treeOf (c .before .before .before .before .before .before .before .before .before .before .before .before .before .before .before .before .before .before .args .m) (stageAt (c .before .before .before .before .before .before .before .before .before .before .before .before .before .before .before .before .before .before .args .ks) (c .before .before .before .before .before .before .before .before .before .before .before .before .before .before .before .before .before .before .args .w .now) 0 (cells (c .before .before .before .before .before .before .before .before .before .before .before .before .before .before .before .before .before .before .args .ks)))) in
+    let b = c .before .before .before .before .before .before .before .before .before .before .before .before .before .before .before .before .before .before in
+    let s = b .pre .1 .fits .numbers in
+    let p = size-pos (treeOf (b .args .m) (frontStage (b .args .ks) (b .args .w .now))) in
     search needs
 
 stage-returns : (t : ℕ) → stage-lts.Need-returns (stage-claims t) (stage-at t) stage.Post
 stage-returns t c =
-    let n : width (c .before .before .before .before .before .before .before .before .before .before .before .before .before .drop-all .result) < 2 = search needs in
-    leaf-whole (c .before .before .before .before .before .before .before .before .before .before .before .before .before .before .before .before .before .before .pre .1) (c .before .before .before .before .before .before .before .before .before .before .before .before .before .before .before .cell-count .ensures) (c .before .before .before .before .before .before .before .before .before .before .before .before .before .drop-all .ensures) n (c .before .before .before .before .before .before .leaf .ensures) (c .before .before .spread .ensures)
+    let d = c .before .before .before .before .before .before .before .before .before .before .before .before .before in
+    let n : width (d .drop-all .result) < 2 = search needs in
+    leaf-whole (d .before .before .before .before .before .pre .1) (d .drop-all .ensures) n (c .before .before .before .before .before .before .leaf .ensures) (c .before .before .spread .ensures)
 
 stage-same-length : (t : ℕ) → stage-lts.Need-same-length (stage-claims t) (stage-at t) stage.Post
 stage-same-length t c = stage-returns t c .len
@@ -398,53 +403,59 @@ stage-same-length t c = stage-returns t c .len
 stage-same-length-2 : (t : ℕ) → stage-lts.Need-same-length-2 (stage-claims t) (stage-at t) stage.Post
 stage-same-length-2 t c = stage-returns t c .put .bytes .len
 
+stage-cell-count-requires-2 : (t : ℕ) → stage-lts.Need-cell-count-requires-2 (stage-claims t) (stage-at t) stage.Post
+stage-cell-count-requires-2 t c κs = tt
+
 stage-choose-requires : (t : ℕ) → stage-lts.Need-choose-requires (stage-claims t) (stage-at t) stage.Post
-stage-choose-requires t c κs = choose-room (c .before .before .before .before .before .before .before .before .before .before .pre .1) (c .before .before .before .before .before .before .before .cell-count .ensures) (c .before .before .before .before .before .drop-all .ensures)
+stage-choose-requires t c κs =
+    let d = c .before .before .before .before .before .before in
+    choose-room (d .before .before .before .before .before .pre .1) (d .drop-all .ensures) (c .before .cell-count2 .ensures)
 
 stage-enum-told : (t : ℕ) → stage-lts.Need-enum-told (stage-claims t) (stage-at t) stage.Post
 stage-enum-told t c = search needs
 
 stage-split-requires : (t : ℕ) → stage-lts.Need-split-requires (stage-claims t) (stage-at t) stage.Post
 stage-split-requires t c κs =
-    let s = c .before .before .before .before .before .before .before .before .before .before .before .before .before .before .before .before .before .pre .1 in
-    let q = c .before .before .before .before .before .before .before .before .before .before .before .before .before .before .cell-count .ensures in
-    let d = c .before .before .before .before .before .before .before .before .before .before .before .before .drop-all .ensures in
-    let n : 2 ≤ width (c .before .before .before .before .before .before .before .before .before .before .before .before .drop-all .result) = search needs in
-    (let e = c .before .before .before .before .before .before .before .before .before .before .before .before .before .before .before .before .before .pre .0 in let f = fewer s q d in omega arith, splits s q d n (c .before .before .before .before .before .before .choose .ensures) (c .before .before .enum-told .given .1))
+    let d = c .before .before .before .before .before .before .before .before .before .before .before .before .before in
+    let b = d .before .before .before .before .before in
+    let n : 2 ≤ width (d .drop-all .result) = search needs in
+    (let e = b .pre .0 in let f = fewer (b .pre .1) (d .drop-all .ensures) in omega arith, splits (b .pre .1) (d .drop-all .ensures) (c .before .before .before .before .before .before .before .before .cell-count2 .ensures) n (c .before .before .before .before .before .before .choose .ensures) (c .before .before .enum-told .given .1))
 
 stage-enum-known-gate : (t : ℕ) → stage-lts.Need-enum-known-gate (stage-claims t) (stage-at t) stage.Post
 stage-enum-known-gate t c = search needs
 
 stage-join-requires : (t : ℕ) → stage-lts.Need-join-requires (stage-claims t) (stage-at t) stage.Post
 stage-join-requires t c κs =
-    let s = c .before .before .before .before .before .before .before .before .before .before .before .before .before .before .before .before .before .before .pre .1 in
-    let q = c .before .before .before .before .before .before .before .before .before .before .before .before .before .before .before .cell-count .ensures in
-    let d = c .before .before .before .before .before .before .before .before .before .before .before .before .before .drop-all .ensures in
-    let n : 2 ≤ width (c .before .before .before .before .before .before .before .before .before .before .before .before .before .drop-all .result) = search needs in
-    (let e = c .before .before .before .before .before .before .before .before .before .before .before .before .before .before .before .before .before .before .pre .0 in let f = fewer s q d in omega arith, (_, joins s q d n (c .before .before .before .before .before .before .before .choose .ensures) (c .before .before .before .gate .given .1)))
+    let d = c .before .before .before .before .before .before .before .before .before .before .before .before .before .before in
+    let b = d .before .before .before .before .before in
+    let n : 2 ≤ width (d .drop-all .result) = let e = c .before .before .before .before .before .before .before .before .before .before .before .width .ensures in let h = c .before .before .before .before .before .before .before .before .before .before .if1 .left in omega arith in
+    (let e = b .pre .0 in let f = fewer (b .pre .1) (d .drop-all .ensures) in omega arith, (_, joins (b .pre .1) (d .drop-all .ensures) (c .before .before .before .before .before .before .before .before .before .cell-count2 .ensures) n (c .before .before .before .before .before .before .before .choose .ensures) (c .before .before .before .gate .given .1)))
 
 -- the network of the conditions left, whichever way it came
 stage-came : (t : ℕ) (c : stage-lts.At-match-came (stage-claims t) (stage-at t) stage.Post)
-    → let a = c .before .before .before .before .before .before .before .before .before .before .before .before .before .before .args in
-    Written (c .before .before .before .before .before .before .before .before .before .drop-all .result) (treeOf (a .m) (stageAt (a .ks) (a .w .now) 0 (cells (a .ks)))) (c .before .before .before .choose .last .0) (a .network .now) (a .r) (c .match .e) (c .match .w) (c .match .network)
+    → let d = c .before .before .before .before .before .before .before .before .before .before in
+    let a = d .before .before .before .before .before .args in
+    Written (d .drop-all .result) (treeOf (a .m) (frontStage (a .ks) (a .w .now))) (c .before .before .before .choose .last .0) (a .network .now) (a .r) (c .match .e) (c .match .w) (c .match .network)
 stage-came t c =
-    let s = c .before .before .before .before .before .before .before .before .before .before .before .before .before .before .pre .1 in
-    let q = c .before .before .before .before .before .before .before .before .before .before .before .cell-count .ensures in
-    let d = c .before .before .before .before .before .before .before .before .before .drop-all .ensures in
-    let n : 2 ≤ width (c .before .before .before .before .before .before .before .before .before .drop-all .result) = search needs in
+    let d = c .before .before .before .before .before .before .before .before .before .before in
+    let s = d .before .before .before .before .before .pre .1 in
+    let n : 2 ≤ width (d .drop-all .result) = search needs in
+    let e = c .before .before .before .before .before .cell-count2 .ensures in
     let o = c .before .before .before .choose .ensures in
     ⊎-elim
-    (λ p. written-here (p .9) (p .10) (p .11) (split-done s q d n o (p .1 .given .1) (p .4 .ensures)))
-    (λ p. written-here (p .10) (p .11) (p .12) (join-done s q d n o (p .1 .given .1) (p .5 .ensures)))
+    (λ p. written-here (p .9) (p .10) (p .11) (split-done s (d .drop-all .ensures) e n o (p .1 .given .1) (p .4 .ensures)))
+    (λ p. written-here (p .10) (p .11) (p .12) (join-done s (d .drop-all .ensures) e n o (p .1 .given .1) (p .5 .ensures)))
     (c .match .came)
 
 stage-spread-requires-2 : (t : ℕ) → stage-lts.Need-spread-requires-2 (stage-claims t) (stage-at t) stage.Post
 stage-spread-requires-2 t c κs =
-    spread-room (c .before .before .before .before .before .before .before .before .before .before .before .before .before .before .before .pre .1) (c .before .before .before .before .before .before .before .before .before .before .before .before .cell-count .ensures) (c .before .before .before .before .before .before .before .before .before .before .drop-all .ensures) (stage-came t (c .before) .len ∙ c .before .before .before .before .choose .ensures .len)
+    let d = c .before .before .before .before .before .before .before .before .before .before .before in
+    spread-room (d .before .before .before .before .before .pre .1) (d .drop-all .ensures) (stage-came t (c .before) .len ∙ c .before .before .before .before .choose .ensures .len)
 
 stage-returns-2 : (t : ℕ) → stage-lts.Need-returns-2 (stage-claims t) (stage-at t) stage.Post
 stage-returns-2 t c =
-    whole (c .before .before .before .before .before .before .before .before .before .before .before .before .before .before .before .before .before .before .pre .1) (c .before .before .before .before .before .before .before .before .before .before .before .before .before .before .before .cell-count .ensures) (c .before .before .before .before .before .before .before .before .before .before .before .before .before .drop-all .ensures) (c .before .before .before .before .before .before .before .choose .ensures .len) (stage-came t (c .before .before .before .before)) (c .before .before .spread2 .ensures)
+    let d = c .before .before .before .before .before .before .before .before .before .before .before .before .before .before in
+    whole (d .before .before .before .before .before .pre .1) (d .drop-all .ensures) (c .before .before .before .before .before .before .before .choose .ensures .len) (stage-came t (c .before .before .before .before)) (c .before .before .spread2 .ensures)
 
 stage-same-length-3 : (t : ℕ) → stage-lts.Need-same-length-3 (stage-claims t) (stage-at t) stage.Post
 stage-same-length-3 t c = stage-returns-2 t c .len
@@ -552,6 +563,7 @@ pub +join+split+stage-spec : {M : Type 1} → statement M
     (stage-same-length t)
     (stage-same-length-2 t)
     (stage-returns t)
+    (stage-cell-count-requires-2 t)
     (stage-choose-requires t)
     (stage-enum-told t)
     (stage-split-requires t)

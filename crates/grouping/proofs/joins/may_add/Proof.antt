@@ -1,22 +1,22 @@
 -- `grouping::joins::may_add` meets its contract.
-use mathlib.Core.Path.{_≡_, refl}
+use mathlib.Core.Path.{_≡_, sym, _∙_}
+use mathlib.Core.List.{List}
 use Prim.Native.Nat.{ℕ, _-_, _≤_, _<_}
 use native.Mathlib.Omega.{arith}
-use lib.ListN.{getD}
-use mathlib.Core.Bool.{true}
-use Rattle.tables.proofs.LeastLaws.{Axis, line-at}
+use Rattle.rules.specs.Cell.{cells}
+use Rattle.tables.proofs.AlongLaws.{walks-line, walks-room, Begins, begins, Scan, scan-none, scan-more}
 use Rattle.tables.proofs.BelowLaws.{test-refuses, test-passes}
-use Rattle.grouping.proofs.JoiningLaws.{addCell, add-passed, add-failed}
-use borrow.Author.Count.{below-more}
+use Rattle.grouping.proofs.JoiningLaws.{addCell, add-at, add-passed, add-failed}
 use borrow.Author.Needs.{needs}
 use Rattle.grouping.proofs.joins.may_add.Statement.{statement}
 use Rattle.grouping.proofs.joins.may_add.Tie as tie
 
+-- whatever places the step is of
 abbrev Inv-loop : tie.InvT-loop
-Inv-loop w i low keep grow n step card c₀ c = (c ≤ n) × ((k : ℕ) → k < c → addCell w low keep grow step card k ≡ true)
+Inv-loop w i low keep grow n on₀ c₀ on c = (c ≤ n) × ((ks : List ℕ) → Begins ks i n on₀ → Scan ks i (addCell w ks i low keep grow) c on)
 
 abbrev μ-loop : tie.MeasureT-loop
-μ-loop w i low keep grow n step card c₀ c = n - c
+μ-loop w i low keep grow n on₀ c₀ on c = n - c
 
 cell-count-requires : tie.Need-cell-count-requires Inv-loop μ-loop
 cell-count-requires c κs = search needs
@@ -24,18 +24,30 @@ cell-count-requires c κs = search needs
 step-requires : tie.Need-step-requires Inv-loop μ-loop
 step-requires c κs = search needs
 
-array-read-card : tie.Need-array-read-card Inv-loop μ-loop
-array-read-card c = search needs
+array-read-first : tie.Need-array-read-first Inv-loop μ-loop
+array-read-first c = search needs
 
-cast-card : tie.Need-cast-card Inv-loop μ-loop
-cast-card c = search needs
+cast-first : tie.Need-cast-first Inv-loop μ-loop
+cast-first c = search needs
 
--- the step and the cardinality of the condition
-axis : (c : tie.After-step Inv-loop μ-loop) → Axis (c .before .before .before .args .t2) (c .before .before .before .args .i) (c .step .result) (getD (c .before .before .before .args .t2) (c .before .before .before .args .i) 0)
-axis c = record { place = search needs; step-is = c .step .ensures; card-is = refl }
+first-requires : tie.Need-first-requires Inv-loop μ-loop
+first-requires c κs = search needs
 
 loop-holds : tie.Need-loop-holds Inv-loop μ-loop
-loop-holds c = (search needs, λ k h. absurd (omega arith))
+loop-holds c = let s = c .before .before .before .before .args in (search needs, λ ks x. scan-none (addCell (s .w .now) ks (s .i) (s .low) (s .keep) (s .grow)) x)
+
+-- the walk at its first cell
+begun : (c : tie.After-first Inv-loop μ-loop) → let s = c .before .before .before .before .args in Begins (s .t2) (s .i) (c .before .before .cell-count .result) (c .first .result)
+begun c =
+    let b = c .before .before .before .before in
+    begins (b .pre .1 .shaped) (c .before .before .cell-count .ensures) (search needs) (c .before .step .ensures) (c .first .ensures)
+
+-- where the loop is
+at-cell : (c : tie.In-loop Inv-loop μ-loop) → let s = c .before .before .before .before .before .before .args in let l = c .before .loop in Scan (s .t2) (s .i) (addCell (s .w .now) (s .t2) (s .i) (s .low) (s .keep) (s .grow)) (l .c) (l .on)
+at-cell c = c .before .loop .inv .1 (c .before .before .before .before .before .before .args .t2) (begun (c .before .before))
+
+inside : (c : tie.In-loop Inv-loop μ-loop) → c .before .loop .c < cells (c .before .before .before .before .before .before .args .t2)
+inside c = let e = c .before .before .before .before .cell-count .ensures in omega arith
 
 add-above-both : tie.Need-add-above-both Inv-loop μ-loop
 add-above-both c = search needs
@@ -51,15 +63,22 @@ shared-slice-read-above-both-2 c = search needs
 
 above-both-requires : tie.Need-above-both-requires Inv-loop μ-loop
 above-both-requires c κs =
-    let p = c .before .before .before .before .before .before .before .pre .2 in
-    line-at (p .shaped) (axis (c .before .before .before .before)) _ _ (c .before .before .before .loop .c) (p .second) (omega arith)
+    let t = c .before .before in
+    let p = t .before .before .before .before .before .before .pre .2 in
+    walks-line (p .shaped) (at-cell t .walks) _ _ (p .second) (inside t)
 
 returns : tie.Need-returns Inv-loop μ-loop
 returns c =
-    let b = c .before .before .before .before .before .before in
-    let s = b .before .before .before .args in
-    add-failed (s .w .now) (s .low) (s .keep) (s .grow) (b .before .before .before .pre .1 .shaped) (axis b) (c .before .before .before .before .before .loop .c) (omega arith)
-    (test-refuses (c .before .above-both .ensures) (c .if1 .taken))
+    let t = c .before .before .before .before in
+    let b = t .before .before .before .before .before .before in
+    let s = b .args in
+    add-failed (s .w .now) (s .t2) (s .i) (s .low) (s .keep) (s .grow) (t .before .loop .c) (inside t)
+    (sym (add-at (s .w .now) (s .t2) (s .i) (s .low) (s .keep) (s .grow) (b .pre .1 .shaped) (at-cell t .walks) (inside t)) ∙ test-refuses (c .before .above-both .ensures) (c .if1 .taken))
+
+next-requires : tie.Need-next-requires Inv-loop μ-loop
+next-requires c κs =
+    let t = c .before .before .before .before in
+    walks-room (t .before .before .before .before .before .before .pre .1 .shaped) (at-cell t .walks)
 
 add-c : tie.Need-add-c Inv-loop μ-loop
 add-c c = search needs
@@ -69,14 +88,24 @@ loop-less c = search needs
 
 loop-again : tie.Need-loop-again Inv-loop μ-loop
 loop-again c =
-    let l = c .before .before .before .before .before .loop in
-    (search needs, below-more _ (l .c) (l .inv .1) (test-passes (c .before .above-both .ensures) (c .if1 .left)))
+    let t = c .before .before .before .before .before in
+    let s = t .before .before .before .before .before .before .args in
+    let l = t .before .loop in (
+      search needs,
+      λ ks x.
+          let a = l .inv .1 ks x in
+          let h : l .c < cells ks = let e = x .count in omega arith in
+          scan-more (addCell (s .w .now) ks (s .i) (s .low) (s .keep) (s .grow)) (x .shaped) a
+          (sym (add-at (s .w .now) ks (s .i) (s .low) (s .keep) (s .grow) (x .shaped) (a .walks) h) ∙ test-passes (c .before .before .above-both .ensures) (c .before .if1 .left))
+          (c .next .ensures),
+    )
 
 returns-2 : tie.Need-returns-2 Inv-loop μ-loop
 returns-2 c =
-    let b = c .before .before in
-    let s = b .before .before .before .args in
-    add-passed (s .w .now) (s .low) (s .keep) (s .grow) (b .before .before .before .pre .1 .shaped) (axis b) (omega arith) (c .before .loop .inv .1)
+    let b = c .before .before .before .before .before .before in
+    let s = b .args in
+    let e = c .before .before .before .before .cell-count .ensures in
+    add-passed (s .w .now) (s .t2) (s .i) (s .low) (s .keep) (s .grow) (omega arith) (c .before .loop .inv .1 (s .t2) (begun (c .before .before)) .passed)
 
 pub may-add-spec : {M : Type 1} → statement M
 may-add-spec =
@@ -86,8 +115,9 @@ may-add-spec =
     μ-loop
     cell-count-requires
     step-requires
-    array-read-card
-    cast-card
+    array-read-first
+    cast-first
+    first-requires
     loop-holds
     add-above-both
     shared-slice-read-above-both
@@ -95,6 +125,7 @@ may-add-spec =
     shared-slice-read-above-both-2
     above-both-requires
     returns
+    next-requires
     add-c
     loop-less
     loop-again

@@ -1,36 +1,58 @@
 -- `grouping::joins::pair_joins` meets its contract.
-use mathlib.Core.Path.{_≡_}
+use mathlib.Core.Path.{_≡_, sym, _∙_}
+use mathlib.Core.List.{List}
 use Prim.Native.Nat.{ℕ, _-_, _≤_, _<_}
 use native.Mathlib.Omega.{arith}
-use mathlib.Core.Bool.{true}
-use Rattle.tables.proofs.LeastLaws.{axis-of, line-at}
+use Rattle.rules.specs.Cell.{cells}
+use Rattle.tables.proofs.AlongLaws.{Walks, walks-line, walks-room, walks-next, Begins, begins, Scan, scan-none, scan-more}
 use Rattle.tables.proofs.BelowLaws.{test-refuses, test-passes}
-use Rattle.grouping.proofs.JoiningLaws.{pairCell, pair-passed, pair-failed}
-use borrow.Author.Count.{below-more}
+use Rattle.grouping.proofs.JoiningLaws.{pairCell, pair-at, pair-passed, pair-failed}
 use borrow.Author.Needs.{needs}
 use Rattle.grouping.proofs.joins.pair_joins.Statement.{statement}
 use Rattle.grouping.proofs.joins.pair_joins.Tie as tie
 
+-- whatever places the steps are of
 abbrev Inv-loop : tie.InvT-loop
-Inv-loop w i j n step-i step-j low high card-i card-j c₀ c = (c ≤ n) × ((k : ℕ) → k < c → pairCell w low high step-i card-i step-j card-j k ≡ true)
+Inv-loop w i j n step-i step-j low high on-i₀ on-j₀ c₀ on-i on-j c =
+    (c ≤ n) × ((ks : List ℕ) → Begins ks i n on-i₀ → Begins ks j n on-j₀ → Scan ks i (pairCell w ks i j low high) c on-i × Walks ks j c on-j)
 
 abbrev μ-loop : tie.MeasureT-loop
-μ-loop w i j n step-i step-j low high card-i card-j c₀ c = n - c
+μ-loop w i j n step-i step-j low high on-i₀ on-j₀ c₀ on-i on-j c = n - c
 
-array-read-card-i : tie.Need-array-read-card-i Inv-loop μ-loop
-array-read-card-i c = search needs
+array-read-first : tie.Need-array-read-first Inv-loop μ-loop
+array-read-first c = search needs
 
-cast-card-i : tie.Need-cast-card-i Inv-loop μ-loop
-cast-card-i c = search needs
+cast-first : tie.Need-cast-first Inv-loop μ-loop
+cast-first c = search needs
 
-array-read-card-j : tie.Need-array-read-card-j Inv-loop μ-loop
-array-read-card-j c = search needs
+first-requires : tie.Need-first-requires Inv-loop μ-loop
+first-requires c κs = search needs
 
-cast-card-j : tie.Need-cast-card-j Inv-loop μ-loop
-cast-card-j c = search needs
+array-read-first-2 : tie.Need-array-read-first-2 Inv-loop μ-loop
+array-read-first-2 c = search needs
+
+cast-first-2 : tie.Need-cast-first-2 Inv-loop μ-loop
+cast-first-2 c = search needs
+
+first-requires-2 : tie.Need-first-requires-2 Inv-loop μ-loop
+first-requires-2 c κs = search needs
 
 loop-holds : tie.Need-loop-holds Inv-loop μ-loop
-loop-holds c = (search needs, λ k h. absurd (omega arith))
+loop-holds c = let s = c .before .before .before .args in (search needs, λ ks x y. (scan-none (pairCell (s .w .now) ks (s .i) (s .j) (s .low) (s .high)) x, y .first))
+
+-- both walks at their first cell
+one : (c : tie.After-first2 Inv-loop μ-loop) → let s = c .before .before .before .args in Begins (s .t2) (s .i) (s .n) (c .before .first .result)
+one c = let b = c .before .before .before in begins (b .pre .3 .shaped) (b .pre .2 .count) (search needs) (b .pre .2 .first) (c .before .first .ensures)
+
+other : (c : tie.After-first2 Inv-loop μ-loop) → let s = c .before .before .before .args in Begins (s .t2) (s .j) (s .n) (c .first2 .result)
+other c = let b = c .before .before .before in begins (b .pre .3 .shaped) (b .pre .2 .count) (search needs) (b .pre .2 .second) (c .first2 .ensures)
+
+-- where the loop is
+at-cell : (c : tie.In-loop Inv-loop μ-loop) → let s = c .before .before .before .before .before .args in let l = c .before .loop in Scan (s .t2) (s .i) (pairCell (s .w .now) (s .t2) (s .i) (s .j) (s .low) (s .high)) (l .c) (l .on-i) × Walks (s .t2) (s .j) (l .c) (l .on-j)
+at-cell c = c .before .loop .inv .1 (c .before .before .before .before .before .args .t2) (one (c .before .before)) (other (c .before .before))
+
+inside : (c : tie.In-loop Inv-loop μ-loop) → c .before .loop .c < cells (c .before .before .before .before .before .args .t2)
+inside c = let e = c .before .before .before .before .before .pre .2 .count in omega arith
 
 add-below-on-both : tie.Need-add-below-on-both Inv-loop μ-loop
 add-below-on-both c = search needs
@@ -40,22 +62,29 @@ shared-slice-read-below-on-both c = search needs
 
 below-on-both-requires : tie.Need-below-on-both-requires Inv-loop μ-loop
 below-on-both-requires c κs =
-    let s = c .before .before .before .before .args in
-    let p = c .before .before .before .before .pre in
-    let e = p .2 .count in
-    let x = axis-of (s .t2) (s .i) (s .step-i) (search needs) (p .2 .first) in
-    let y = axis-of (s .t2) (s .j) (s .step-j) (search needs) (p .2 .second) in
-    let k = c .before .before .loop .c in
-    (line-at (p .3 .shaped) x _ _ k (p .3 .second) (omega arith), line-at (p .3 .shaped) y _ _ k (p .3 .second) (omega arith))
+    let p = c .before .before .before .before .before .before .pre .3 in
+    let a = at-cell (c .before) in
+    (walks-line (p .shaped) (a .0 .walks) _ _ (p .second) (inside (c .before)), walks-line (p .shaped) (a .1) _ _ (p .second) (inside (c .before)))
 
 returns : tie.Need-returns Inv-loop μ-loop
 returns c =
-    let s = c .before .before .before .before .before .before .args in
-    let p = c .before .before .before .before .before .before .pre in
-    let e = p .2 .count in
-    let x = axis-of (s .t2) (s .i) (s .step-i) (search needs) (p .2 .first) in
-    let y = axis-of (s .t2) (s .j) (s .step-j) (search needs) (p .2 .second) in
-    pair-failed (s .w .now) (s .low) (s .high) (p .3 .shaped) x y (c .before .before .before .before .loop .c) (omega arith) (test-refuses (c .before .below-on-both .ensures) (c .if1 .taken))
+    let t = c .before .before .before in
+    let b = t .before .before .before .before .before in
+    let s = b .args in
+    let k = t .before .loop .c in
+    let a = at-cell t in
+    pair-failed (s .w .now) (s .t2) (s .i) (s .j) (s .low) (s .high) k (inside t)
+    (sym (pair-at (s .w .now) (s .t2) (s .i) (s .j) (s .low) (s .high) (b .pre .3 .shaped) (a .0 .walks) (a .1) (inside t)) ∙ test-refuses (c .before .below-on-both .ensures) (c .if1 .taken))
+
+next-requires : tie.Need-next-requires Inv-loop μ-loop
+next-requires c κs =
+    let t = c .before .before .before in
+    walks-room (t .before .before .before .before .before .pre .3 .shaped) (at-cell t .0 .walks)
+
+next-requires-2 : tie.Need-next-requires-2 Inv-loop μ-loop
+next-requires-2 c κs =
+    let t = c .before .before .before .before in
+    walks-room (t .before .before .before .before .before .pre .3 .shaped) (at-cell t .1)
 
 add-c : tie.Need-add-c Inv-loop μ-loop
 add-c c = search needs
@@ -65,17 +94,26 @@ loop-less c = search needs
 
 loop-again : tie.Need-loop-again Inv-loop μ-loop
 loop-again c =
-    let l = c .before .before .before .before .loop in
-    (search needs, below-more _ (l .c) (l .inv .1) (test-passes (c .before .below-on-both .ensures) (c .if1 .left)))
+    let t = c .before .before .before .before .before in
+    let s = t .before .before .before .before .before .args in
+    let l = t .before .loop in (
+      search needs,
+      λ ks x y.
+          let a = l .inv .1 ks x y in
+          let h : l .c < cells ks = let e = x .count in omega arith in (
+            scan-more (pairCell (s .w .now) ks (s .i) (s .j) (s .low) (s .high)) (x .shaped) (a .0)
+                (sym (pair-at (s .w .now) ks (s .i) (s .j) (s .low) (s .high) (x .shaped) (a .0 .walks) (a .1) h) ∙ test-passes (c .before .before .before .below-on-both .ensures) (c .before .before .if1 .left))
+                (c .before .next .ensures),
+            walks-next (x .shaped) (a .1) (c .next2 .ensures),
+          ),
+    )
 
 returns-2 : tie.Need-returns-2 Inv-loop μ-loop
 returns-2 c =
-    let s = c .before .before .before .args in
-    let p = c .before .before .before .pre in
-    let e = p .2 .count in
-    let x = axis-of (s .t2) (s .i) (s .step-i) (search needs) (p .2 .first) in
-    let y = axis-of (s .t2) (s .j) (s .step-j) (search needs) (p .2 .second) in
-    pair-passed (s .w .now) (s .low) (s .high) (p .3 .shaped) x y (omega arith) (c .before .loop .inv .1)
+    let b = c .before .before .before .before .before in
+    let s = b .args in
+    let e = b .pre .2 .count in
+    pair-passed (s .w .now) (s .t2) (s .i) (s .j) (s .low) (s .high) (omega arith) (c .before .loop .inv .1 (s .t2) (one (c .before .before)) (other (c .before .before)) .0 .passed)
 
 pub pair-joins-spec : {M : Type 1} → statement M
 pair-joins-spec =
@@ -83,15 +121,19 @@ pair-joins-spec =
     (tie.spec
     Inv-loop
     μ-loop
-    array-read-card-i
-    cast-card-i
-    array-read-card-j
-    cast-card-j
+    array-read-first
+    cast-first
+    first-requires
+    array-read-first-2
+    cast-first-2
+    first-requires-2
     loop-holds
     add-below-on-both
     shared-slice-read-below-on-both
     below-on-both-requires
     returns
+    next-requires
+    next-requires-2
     add-c
     loop-less
     loop-again

@@ -1,5 +1,5 @@
 -- `stage_steps::values::begin_value` meets its contract.
-use Rattle.stage_steps.proofs.ValueLaws.{lows-room, highs-room, value-begun}
+use Rattle.stage_steps.proofs.ValueLaws.{limits-room, value-begun}
 use borrow.Author.Needs.{needs}
 use Rattle.stage_steps.proofs.values.begin_value.Statement.{statement}
 use Rattle.stage_steps.proofs.values.begin_value.Tie as tie
@@ -10,17 +10,11 @@ put-selector-requires c κs = search needs
 mul-cofactor : tie.Need-mul-cofactor
 mul-cofactor c = search needs
 
-cofactor-requires : tie.Need-cofactor-requires
-cofactor-requires c κs = let p = c .before .before .before .before .before .before .before .pre in (search needs, lows-room p)
-
 mul-cofactor-2 : tie.Need-mul-cofactor-2
 mul-cofactor-2 c = search needs
 
-add-cofactor : tie.Need-add-cofactor
-add-cofactor c = search needs
-
-cofactor-requires-2 : tie.Need-cofactor-requires-2
-cofactor-requires-2 c κs = let p = c .before .before .before .before .before .before .before .before .before .before .before .pre in (search needs, highs-room p (c .before .before .before .cofactor .ensures))
+cofactor-requires : tie.Need-cofactor-requires
+cofactor-requires c κs = let p = c .before .before .before .before .before .before .before .pre in (search needs, limits-room p)
 
 same-length : tie.Need-same-length
 same-length c = search needs
@@ -29,7 +23,9 @@ same-length-2 : tie.Need-same-length-2
 same-length-2 c = search needs
 
 returns : tie.Need-returns
-returns c = value-begun (c .before .before .before .before .before .before .before .before .before .before .before .before .before .before .pre) (c .before .before .before .before .before .before .cofactor .ensures) (c .before .before .before .before .before .before .before .before .before .before .put-selector .ensures) (c .before .before .cofactor2 .ensures)
+returns c =
+    let d = c .before .before .before .before .before .before in
+    value-begun (d .before .before .before .before .pre) (c .before .before .cofactor .ensures) (d .put-selector .ensures)
 
 pub begin-value-spec : {M : Type 1} → statement M
 begin-value-spec =
@@ -37,10 +33,8 @@ begin-value-spec =
     (tie.spec
     put-selector-requires
     mul-cofactor
-    cofactor-requires
     mul-cofactor-2
-    add-cofactor
-    cofactor-requires-2
+    cofactor-requires
     same-length
     same-length-2
     returns)

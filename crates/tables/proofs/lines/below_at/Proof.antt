@@ -1,60 +1,44 @@
 -- `tables::lines::below_at` meets its contract.
-use Prim.Native.Nat.{_<_}
-use mathlib.Core.Path.{sym, ap}
+use Prim.Native.Nat.{ℕ, _+_, _-_}
+use mathlib.Core.Path.{_≡_, sym, _∙_, ap, subst}
 use mathlib.Core.Bool.{false, not}
 use native.Mathlib.Omega.{arith}
-use native.Mathlib.Nat.{mul-pos}
-use lib.ListN.{length}
+use lib.Dec.{leb}
 use borrow.Author.Tests.{le-leb}
 use borrow.Author.Needs.{needs}
-use Rattle.tables.specs.Line.{lineBest, lineStart}
-use Rattle.tables.proofs.LineLaws.{line-start}
+use Rattle.tables.specs.Line.{lineBest, lineStart, Line, leastOn}
+use Rattle.tables.proofs.AlongLaws.{stands-start}
 use Rattle.tables.proofs.lines.below_at.Statement.{statement}
 use Rattle.tables.proofs.lines.below_at.Tie as tie
 
 returns : tie.Need-returns
 returns c =
     let s = c .before .before .args in
-    sym (ap not (le-leb (s .grade) (lineBest false (s .w .now) (lineStart (s .table) (s .c) (s .step) (s .card)) (s .step) (s .card)) (omega arith)))
+    sym (ap not (le-leb (s .grade) (leastOn (s .w .now) (s .table) (s .c) (s .on)) (omega arith)))
 
-mul-block : tie.Need-mul-block
-mul-block c = search needs
-
-rem-below : tie.Need-rem-below
-rem-below c = search needs
-
--- the line's start is a place of the buffer
-starts : (c : tie.Else1) → lineStart (c .before .before .args .table) (c .before .before .args .c) (c .before .before .args .step) (c .before .before .args .card) < length (c .before .before .args .w .now)
-starts c = line-start (c .before .before .pre .line)
-
-div-below : tie.Need-div-below
-div-below c = mul-pos (c .before .before .pre .line .steps) (c .before .before .pre .line .some)
-
-mul-below : tie.Need-mul-below
-mul-below c = omega (arith, starts c)
+-- the line's start, as it is computed
+starts : (c : tie.Else1) → let s = c .before .before .args in lineStart (s .table) (s .c) (s .on .step) (s .on .card) + s .on .back ≡ s .table + s .c
+starts c = stands-start (c .before .before .pre .stands) (c .before .before .args .table)
 
 add-below : tie.Need-add-below
-add-below c = omega (arith, starts c)
+add-below c = let p = c .before .before .pre in let e = p .stands .back-is in omega (arith, starts c, p .line .inside (p .stands .value) (p .stands .within))
 
-add-below-2 : tie.Need-add-below-2
-add-below-2 c = omega (arith, starts c)
+sub-below : tie.Need-sub-below
+sub-below c = omega (arith, starts (c .before))
 
 below-requires : tie.Need-below-requires
-below-requires c κs = search needs
+below-requires c κs =
+    let b = c .before .before .before in
+    let s = b .args in
+    subst (λ (a : ℕ). Line (s .w .now) a (s .on .step) (s .on .card)) (let e : lineStart (s .table) (s .c) (s .on .step) (s .on .card) ≡ s .table + s .c - s .on .back = omega (arith, starts (c .before)) in e) (b .pre .line)
 
 returns-2 : tie.Need-returns-2
-returns-2 c = search needs
+returns-2 c =
+    let b = c .before .before in
+    let s = b .before .before .args in
+    c .below .ensures
+    ∙ ap (λ (a : ℕ). not (leb (s .grade) (lineBest false (s .w .now) a (s .on .step) (s .on .card))))
+    (let e : s .table + s .c - s .on .back ≡ lineStart (s .table) (s .c) (s .on .step) (s .on .card) = omega (arith, starts b) in e)
 
 pub below-at-spec : {M : Type 1} → statement M
-below-at-spec =
-    tie.close
-    (tie.spec
-    returns
-    mul-block
-    rem-below
-    div-below
-    mul-below
-    add-below
-    add-below-2
-    below-requires
-    returns-2)
+below-at-spec = tie.close (tie.spec returns add-below sub-below below-requires returns-2)
