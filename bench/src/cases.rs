@@ -34,7 +34,10 @@ fn parity(cards: &[u8]) -> OwnedTable {
 
 /// Noise that is the same in every run.
 fn noise() -> impl FnMut() -> usize {
-    let mut state = 1u32;
+    noise_from(1)
+}
+
+fn noise_from(mut state: u32) -> impl FnMut() -> usize {
     move || {
         state = state.wrapping_mul(1_664_525).wrapping_add(1_013_904_223);
         (state >> 16) as usize
@@ -52,6 +55,42 @@ fn sparse(cards: &[u8], grades: u8) -> OwnedTable {
     OwnedTable::by_rule(cards, grades, |_| {
         let (listed, grade) = (next() % 10 == 0, (next() % grades as usize) as u8);
         if listed { (grade, grade) } else { (0, grades - 1) }
+    })
+}
+
+/// Shapes of 486 to 1,024 cells.
+const SHAPES: [&[u8]; 10] = [
+    &[8, 2, 2, 2, 2, 2, 2, 2],
+    &[2, 2, 2, 2, 2, 2, 2, 8],
+    &[4, 4, 2, 2, 2, 2, 2, 2],
+    &[2, 2, 2, 2, 2, 2, 4, 4],
+    &[3, 3, 3, 3, 3, 2, 2],
+    &[2, 3, 3, 3, 3, 3],
+    &[4, 4, 4, 4, 4],
+    &[5, 5, 5, 8],
+    &[8, 8, 8, 2],
+    &[2, 8, 8, 8],
+];
+
+/// A table drawn by its number: its shape and grades, how many cells of ten may leave any grade, how far apart the
+/// other limits lie, and whether the grades are noise or the gate of two functions of half the conditions.
+pub fn drawn(number: u32) -> OwnedTable {
+    let mut next = noise_from(number.wrapping_mul(2_654_435_761));
+    let cards = SHAPES[next() % SHAPES.len()];
+    let grades = 2 + next() % 15;
+    let (free, apart, kind) = (next() % 10, next() % grades, next() % 3);
+    let half = cards.len() / 2;
+    let cells: usize = cards.iter().map(|&card| card as usize).product();
+    let blocks: Vec<usize> = (0..2 * cells).map(|_| next() % grades).collect();
+    OwnedTable::by_rule(cards, grades as u8, |values| {
+        let place = |of: &[u8]| of.iter().fold(0, |cell, &value| 8 * cell + value as usize) % cells;
+        let (first, second) = (blocks[place(&values[..half])], blocks[cells + place(&values[half..])]);
+        let grade = [next() % grades, first.max(second), first.min(second)][kind];
+        if next() % 10 < free {
+            (0, grades as u8 - 1)
+        } else {
+            (grade.saturating_sub(next() % (apart + 1)) as u8, (grade + next() % (apart + 1)).min(grades - 1) as u8)
+        }
     })
 }
 
@@ -91,7 +130,7 @@ fn join(name: &str, table: OwnedTable, gate: Gate, sets: Sets, second: bool) -> 
     Case { name: format!("join {name}"), growth: None, prepare: Box::new(prepare) }
 }
 
-fn compile(name: &str, line: Option<&'static str>, table: OwnedTable) -> Case {
+pub fn compile(name: &str, line: Option<&'static str>, table: OwnedTable) -> Case {
     let cells = table.cells();
     let prepare = move || -> Call {
         let table = table.clone();
@@ -163,6 +202,8 @@ pub fn all() -> Vec<Case> {
         compile("monks 2", None, monks_2()),
         compile("8 2⁷, 90 % don't-cares, m 4", None, sparse(&LARGEST, 4)),
         compile("8 8 8 2, 90 % don't-cares, m 4", None, sparse(&[8, 8, 8, 2], 4)),
+        compile("8 2⁷, drawn table 37,019, m 11", None, drawn(37_019)),
+        compile("4 4 2⁶, drawn table 34,189, m 14", None, drawn(34_189)),
     ];
     let growing = [("2⁴", 4), ("2⁵", 5), ("2⁶", 6), ("2⁷", 7), ("2⁸", 8)].map(|(name, count)| (name, vec![2; count]));
     let largest = [("4 2⁷", 4), ("8 2⁷", 8)].map(|(name, first)| (name, [&[first], &LARGEST[1..]].concat()));

@@ -2,6 +2,7 @@
 //!
 //!     bench FOLDER                    writes BENCHMARKS.md and compile-cost.svg there, and prints the table
 //!     bench once NAME CASE TIMES      makes one call so many times; for counting its instructions
+//!     bench search SECONDS            draws tables for so long, and prints those that take longest to compile
 //!
 //! Instructions are counted by callgrind, in two runs of which one makes twice as many calls: the difference is the
 //! calls' own, and is the same in every run.
@@ -11,7 +12,7 @@ mod plot;
 mod report;
 
 use calls::{Calls, plain::Plain};
-use cases::{Case, all};
+use cases::{Case, all, compile, drawn};
 use report::{Report, Row};
 use std::path::Path;
 use std::process::{Command, ExitCode};
@@ -110,6 +111,50 @@ fn measure() -> Report {
     report
 }
 
+/// The least time of so many compiles of a drawn table.
+fn compile_time(calls: &dyn Calls, number: u32, times: u32) -> Duration {
+    let mut call = (compile("drawn", None, drawn(number)).prepare)();
+    let once = |_| {
+        let start = Instant::now();
+        std::hint::black_box(call(calls));
+        start.elapsed()
+    };
+    (0..times).map(once).min().unwrap_or_default()
+}
+
+/// Draws tables one after the other, and prints those that take longest to compile. Since a time may be that of
+/// something else as well, the longest are measured again, and longer.
+fn search(seconds: &str) -> Option<()> {
+    const KEPT: usize = 200;
+    const SHOWN: usize = 10;
+    let (begin, limit) = (Instant::now(), Duration::from_secs(seconds.parse().ok()?));
+    let implementations = implementations();
+    let (name, calls) = &implementations[0];
+    let mut slowest: Vec<(Duration, u32)> = vec![];
+    let longest_first = |slowest: &mut Vec<(Duration, u32)>, kept| {
+        slowest.sort_by(|one, other| other.cmp(one));
+        slowest.truncate(kept);
+    };
+    let mut number = 0;
+    while begin.elapsed() < limit {
+        slowest.push((compile_time(&**calls, number, 2), number));
+        if slowest.len() > 10 * KEPT {
+            longest_first(&mut slowest, KEPT);
+        }
+        number += 1;
+    }
+    longest_first(&mut slowest, KEPT);
+    for (time, number) in &mut slowest {
+        *time = compile_time(&**calls, *number, 30);
+    }
+    longest_first(&mut slowest, SHOWN);
+    println!("{name}: of {number} drawn tables");
+    for (time, number) in slowest {
+        println!("{:8.1} µs  table {number}, shape {:?}", time.as_nanos() as f64 / 1e3, drawn(number).shape);
+    }
+    Some(())
+}
+
 fn write(folder: &Path, report: &Report) -> std::io::Result<()> {
     std::fs::write(folder.join("BENCHMARKS.md"), report.document())?;
     std::fs::write(folder.join("compile-cost.svg"), plot::draw(&report.lines()))
@@ -120,8 +165,9 @@ fn main() -> ExitCode {
     let words: Vec<&str> = words.iter().map(String::as_str).collect();
     let done = match words[..] {
         ["once", name, case, times] => once(name, case, times).ok_or("no such call".into()),
+        ["search", seconds] => search(seconds).ok_or("bench search SECONDS".into()),
         [folder] => write(Path::new(folder), &measure()).map_err(|error| format!("{folder}: {error}")),
-        _ => Err("bench FOLDER\nbench once NAME CASE TIMES".into()),
+        _ => Err("bench FOLDER\nbench once NAME CASE TIMES\nbench search SECONDS".into()),
     };
     match done {
         Ok(()) => ExitCode::SUCCESS,

@@ -1,6 +1,6 @@
 -- The first stage of a table, in the work buffer.
 use Prim.Native.Nat.{ℕ, _+_, _-_, _*_, _≤_, _<_, max}
-use mathlib.Core.Path.{_≡_, sym, _∙_, ap, ap₂, subst}
+use mathlib.Core.Path.{_≡_, refl, sym, _∙_, ap, ap₂, subst}
 use mathlib.Core.Bool.{true, _&&_}
 use mathlib.Core.List.{List, [], _∷_, _++_}
 use native.Mathlib.Nat.{zero-add}
@@ -117,10 +117,11 @@ module _ (shape : Shape) (lower upper work network : List ℕ) (ok : Accepted sh
     lent-length : length (take (16 * cells ks) w) ≡ 16 * cells ks
     lent-length = length-take-le (16 * cells ks) w (let r = rooms .work-room in let e : length w ≡ length work = high .len ∙ low .len in omega arith)
 
-    starts : Starts (shape .m) ks (take (16 * cells ks) w) network 0
+    starts : Starts (shape .m) ks (cells ks) (take (16 * cells ks) w) network 0
     starts =
         record {
           shaped = record { some = lent .positive; few = lent .few-cells };
+          own = refl;
           few = lent .few-values;
           work = let e = lent-length in omega arith;
           proper = subst (Proper (shape .m)) (sym same) (record { some = let g = lent .grades in omega arith; ordered = lent .ordered; top = lent .top });
@@ -169,10 +170,10 @@ module _ (shape : Shape) (lower upper work network : List ℕ) (ok : Accepted sh
     high-by : Laid v (cells (placesOf shape)) (part upper 0 (cells (placesOf shape))) (cells (placesOf shape)) w
     high-by = subst (λ (i : ℕ). Laid v i (part upper 0 i) i w) count high
 
-    pub starts-by : Starts (shape .m) k (take (16 * n) w) network 0
+    pub starts-by : Starts (shape .m) k n (take (16 * n) w) network 0
     starts-by =
-        subst (λ (i : ℕ). Starts (shape .m) k (take (16 * i) w) network 0) (sym count)
-        (subst (λ (q : List ℕ). Starts (shape .m) q (take (16 * cells (placesOf shape)) w) network 0) (sym places) (starts shape lower upper work network ok low-by high-by))
+        subst (λ (i : ℕ). Starts (shape .m) k i (take (16 * i) w) network 0) (sym count)
+        (subst (λ (q : List ℕ). Starts (shape .m) q (cells (placesOf shape)) (take (16 * cells (placesOf shape)) w) network 0) (sym places) (starts shape lower upper work network ok low-by high-by))
 
     pub recorded-by : {e : ℕ} {w′ net′ : List ℕ} → Written k (treeOf (shape .m) (stageAt k (take (16 * n) w) 0 (cells k))) (take (16 * n) w) network 0 e w′ net′
         → Recorded shape lower upper work network e (w′ ++ drop (16 * n) w) net′

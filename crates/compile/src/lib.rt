@@ -83,5 +83,5 @@ fn write_records(
     let end = WORK * cells;
     fill::load(work, lower, 0, cells);
     fill::load(work, upper, cells, cells);
-    stages::stage(&mut work[..end], network, shape.places(), shape.m, 0)
+    stages::stage(&mut work[..end], network, shape.places(), cells, shape.m, 0)
 }

@@ -12,7 +12,6 @@ use Rattle.laws.proofs.TableLaws.{length-tabulateFrom}
 use Rattle.laws.proofs.TestLaws.{by-order}
 use Rattle.tables.specs.Part.{part, Laid, Apart, Two}
 use Rattle.tables.proofs.PartLaws.{part-length, part-same, laid-then, laid-part, laid-apart}
-use Rattle.grouping.specs.Joining.{Tables}
 use Rattle.grouping.specs.Growing.{Held, Kept, Space, Started}
 
 -- parts that lie apart, from either
@@ -31,9 +30,6 @@ cells-apart {w} {from} {to} e p = subst (λ (k : ℕ). Two w from to k) (sym e) 
 
 pub same-space : {w w′ ks : List ℕ} {low a b : ℕ} → length w′ ≡ length w → Space w ks low a b → Space w′ ks low a b
 same-space e p = record { shaped = p .shaped; first = same-apart e (p .first); second = same-apart e (p .second); both = same-apart e (p .both) }
-
-pub space-tables : {w ks : List ℕ} {low a b : ℕ} → Space w ks low a b → Tables w ks low a
-space-tables p = record { shaped = p .shaped; first = p .first .src; second = p .first .dst }
 
 -- what is kept
 pub kept-self : (w : List ℕ) (a b n : ℕ) → Kept w a b n w

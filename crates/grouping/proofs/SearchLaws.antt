@@ -1,5 +1,5 @@
 -- The search for the first pair that joins: its loops' states, and what they end with.
-use Prim.Native.Nat.{ℕ, _+_, _*_, _≤_, _<_}
+use Prim.Native.Nat.{ℕ, _+_, _≤_, _<_}
 use mathlib.Core.Path.{_≡_, refl, sym, subst}
 use mathlib.Core.Bool.{Bool, true, false, _&&_}
 use mathlib.Core.List.{List}
@@ -9,9 +9,7 @@ use native.Mathlib.Omega.{arith}
 use borrow.Author.Tests.{lt-ltb, le-ltb}
 use lib.Dec.{T}
 use lib.ListN.{length, getD}
-use native.Mathlib.Numerals.{add-one}
-use Rattle.rules.specs.Cell.{card, present, singleton, step}
-use Rattle.laws.proofs.LineLaws.{step-next}
+use Rattle.rules.specs.Cell.{card, present, singleton}
 use Rattle.laws.proofs.LoopLaws.{card-read, first-none, first-at}
 use Rattle.grouping.specs.Joining.{joinsAt}
 use Rattle.grouping.specs.Searching.{FirstPair}
@@ -42,10 +40,6 @@ is-absent ks i h l = le-ltb 1 (card ks i) (omega (arith, card-read ks i h))
 
 pub is-present : (ks : List ℕ) (i : ℕ) → i < length ks → 2 ≤ getD ks i 0 → present ks i ≡ true
 is-present ks i h l = lt-ltb 1 (card ks i) (omega (arith, card-read ks i h))
-
--- the step of the next place
-pub step-more : (ks : List ℕ) (i stp : ℕ) → i < length ks → stp ≡ step ks i → stp * getD ks i 0 ≡ step ks (i + 1)
-step-more ks i stp h e = rw (add-one i, step-next ks i, card-read ks i h, e)
 
 refused : (b : Bool) → b ≡ false → T b → ⊥
 refused b e t = subst T e t

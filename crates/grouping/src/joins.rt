@@ -7,7 +7,7 @@ ghost use mathlib.Core.Path.{_≡_};
 ghost use mathlib.Core.Bool.{not};
 ghost use lib.Dec.{leb};
 ghost use Rattle.rules.specs.Cell.{cells, singleton};
-ghost use Rattle.tables.specs.Line.{LineOn, leastOn};
+ghost use Rattle.tables.specs.Line.{Counts, LineOn, leastOn};
 ghost use Rattle.tables.specs.Part.{part};
 ghost use Rattle.grouping.specs.Joining.{Tables, Stepped, joinsAt, admits};
 
@@ -63,12 +63,20 @@ pub fn pair_joins(
 
 // Whether condition i can be added to the set whose table is at `grow`, beside the table at `keep`
 // of the other set.
-pub fn may_add(w: &[u8], ks: [u8; PLACES], i: usize, low: usize, keep: usize, grow: usize) -> bool
-    requires { ⌜ (i < 8) × Tables (now w) ks low keep × Tables (now w) ks low grow ⌝ }
+pub fn may_add(
+    w: &[u8],
+    ks: [u8; PLACES],
+    i: usize,
+    n: usize,
+    step: usize,
+    low: usize,
+    keep: usize,
+    grow: usize,
+) -> bool
+    requires { ⌜ Counts ks i n step × Tables (now w) ks low keep × Tables (now w) ks low grow ⌝ }
     ensures { λ r. ⌜ r ≡ admits ks i (part (now (w .entry)) low (cells ks)) (part (now (w .entry)) keep (cells ks)) (part (now (w .entry)) grow (cells ks)) ⌝ }
 {
-    let n = places::cell_count(ks);
-    let mut on = lines::first(places::step(ks, i), ks[i] as usize);
+    let mut on = lines::first(step, ks[i] as usize);
     for c in 0..n {
         if above_both(w, w[keep + c], grow, c, on, w[low + c]) {
             return false;

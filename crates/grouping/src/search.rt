@@ -5,7 +5,7 @@ use rules::PLACES;
 ghost use Prim.Native.Nat.{_<_};
 ghost use mathlib.Core.Path.{_≡_};
 ghost use mathlib.Core.Bool.{_&&_};
-ghost use Rattle.rules.specs.Cell.{present, singleton};
+ghost use Rattle.rules.specs.Cell.{cells, present, singleton};
 ghost use Rattle.grouping.specs.Joining.{Tables, Stepped, joinsAt};
 ghost use Rattle.grouping.specs.Searching.{FirstPair};
 
@@ -33,12 +33,11 @@ fn admits_pair(
     joins::pair_joins(w, ks, i, j, n, step_i, step_j, low, high)
 }
 
-// The first pair i < j that joins, i rising, then j.
-pub fn first_pair(w: &[u8], ks: [u8; PLACES], low: usize, high: usize) -> Pair
-    requires { ⌜ Tables (now w) ks low high ⌝ }
+// The first pair i < j that joins, i rising, then j, for tables of n cells.
+pub fn first_pair(w: &[u8], ks: [u8; PLACES], n: usize, low: usize, high: usize) -> Pair
+    requires { ⌜ (n ≡ cells ks) × Tables (now w) ks low high ⌝ }
     ensures { λ r. ⌜ FirstPair (now (w .entry)) ks low high r ⌝ }
 {
-    let n = places::cell_count(ks);
     let mut found = Pair::Nothing;
     let mut step_i: usize = 1;
     'search: for i in 0..PLACES {

@@ -52,7 +52,7 @@ pub fn least(w: &mut [u8], ks: [u8; PLACES], set: u8, from: usize, to: usize, n:
     ensures { λ _. ⌜ Laid (now (w .entry)) to (leastOver ks set (part (now (w .entry)) from n)) n (now (w .exit)) ⌝ }
 {
     fill::copy(w, from, to, n);
-    extremes::over_set(w, false, ks, set, to);
+    extremes::over_set(w, false, ks, set, n, to);
 }
 
 // The greatest, over a set, of the low grades that are above the high table's.
@@ -69,7 +69,7 @@ pub fn greatest_above(
     ensures { λ _. ⌜ Laid (now (w .entry)) to (greatestOver ks set (tabulate n (λ c. above (at (part (now (w .entry)) low n) c) (at (part (now (w .entry)) high n) c)))) n (now (w .exit)) ⌝ }
 {
     fill::keep_above(w, low, high, to, n);
-    extremes::over_set(w, true, ks, set, to);
+    extremes::over_set(w, true, ks, set, n, to);
 }
 
 // From limits in parts 2 and 3, exchanged: part 4 becomes the first block's upper limits, part 5 the
@@ -117,7 +117,7 @@ pub fn blind(w: &mut [u8], ks: [u8; PLACES], set: u8, from: usize, to: usize, n:
     ensures { λ r. ⌜ Blinded ks set from to n (now (w .entry)) r (now (w .exit)) ⌝ }
 {
     fill::copy(w, from, to, n);
-    extremes::over_set(w, true, ks, set, to);
+    extremes::over_set(w, true, ks, set, n, to);
     tests::fits(w, to, from, n)
 }
 

@@ -17,6 +17,7 @@ pub mod LineLaws
 pub mod NumberLaws
 pub mod LoopLaws
 pub mod LowestLaws
+pub mod MoveLaws
 pub mod OverLaws
 pub mod PadLaws
 pub mod PadStageLaws

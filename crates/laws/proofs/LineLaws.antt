@@ -1,23 +1,23 @@
--- What the loops compute: over one condition, over a set, a value, a cell with one value put, and the cell map, digit by digit.
+-- What the loops compute: over one condition, over a set, a value, and a cell with one value put.
 use Prim.Native.Nat.{ℕ, zero, suc, _+_, _*_, _/_, _%_, _≤_, _<_}
 use mathlib.Core.Path.{_≡_, refl, sym, _∙_, ap, ap₂, subst}
 use mathlib.Core.Bool.{Bool, true, false, not, cond, _||_}
 use mathlib.Core.List.{List, [], _∷_}
 use mathlib.Core.Logic.{_⊎_, inl, inr, ⊎-elim}
-use native.Mathlib.Nat.{le-refl, add-assoc, mul-comm, mul-assoc, mul-add, mul-pos, mod-lt, mod-one, div-one, mod-eq-of-lt, div-div-eq-div-mul, not-suc-le-zero, le-of-suc-le-suc, eq-or-lt-of-le, mod-add-div}
+use native.Mathlib.Nat.{le-refl, add-assoc, mul-assoc, mul-add, mul-pos, mod-lt, mod-one, div-one, mod-eq-of-lt, div-div-eq-div-mul, not-suc-le-zero, le-of-suc-le-suc, eq-or-lt-of-le, mod-add-div}
 use native.Mathlib.Omega.{arith}
 use lib.Dec.{T, eqb, eqb→eq, eqb-refl}
-use lib.ListN.{length, take, drop}
+use lib.ListN.{length, drop}
 use Rattle.rules.specs.Bytes.{pick, at, numbersFrom}
-use Rattle.rules.specs.Cell.{Positive, cells, card, lowest, width, step, value, cell, remap, put, has, insert, singleton, without, agreeOutside, over, overTo}
+use Rattle.rules.specs.Cell.{Positive, cells, card, step, value, cell, remap, put, has, insert, singleton, without, agreeOutside, over, overTo}
 use Rattle.rules.specs.Demands.{Subset}
 use Rattle.laws.proofs.OverLaws.{Bound, agree-part, over-at, over-self, over-bound, overTo-at, overTo-both, subset}
 use Rattle.laws.proofs.TableLaws.{at-tabulate, tabulate-same}
 use Rattle.laws.proofs.TestLaws.{and-i, by-test, cond-ok}
 use Rattle.laws.proofs.UnionLaws.{digit-mod, digit-div, digit-below, cover, over-over}
 use Rattle.laws.proofs.SetLaws.{has-same, has-keep, has-none, insert-has, singleton-has}
-use Rattle.laws.proofs.CellLaws.{div-below, cell-lt, cell-value, value-lt, value-cell, value-inj, agree-value, value-agree, card-out, without-pos}
-use Rattle.laws.proofs.LowestLaws.{without-none, without-suc, lowest-cells, lowest-digit, lowest-rest}
+use Rattle.laws.proofs.CellLaws.{div-below, cell-value, value-lt, value-inj, agree-value, value-agree}
+use Rattle.laws.proofs.LowestLaws.{without-none, without-suc}
 
 -- a cell with one value put
 pub put-lt : (ks : List ℕ) (c i v : ℕ) → Positive ks → c < cells ks → v < card ks i → put ks c i v < cells ks
@@ -123,23 +123,7 @@ remap-without (k ∷ ks) (suc i) c p h hc =
     s : ℕ
     s = step ks i
 
--- the cell map's loop: one place more of b, the rest of the cell of a being c / step
-cell-next : (b : List ℕ) (i : ℕ) (v : ℕ → ℕ) → i < length b → cell (take (suc i) b) v ≡ cell (take i b) v + v i % card b i * step b i
-cell-next [] i v h = absurd (not-suc-le-zero h)
-cell-next (l ∷ ls) zero v h = omega arith
-cell-next (l ∷ ls) (suc i) v h = more (v 0 % l) l (v (suc i) % card ls i) (step ls i) (cell (take i ls) (λ j. v (suc j))) _ (cell-next ls i (λ j. v (suc j)) (le-of-suc-le-suc h))
-  where
-    more : (a l q w x y : ℕ) → y ≡ x + q * w → a + l * y ≡ a + l * x + q * (l * w)
-    more a l q w x y e =
-        ap (λ (z : ℕ). a + l * z) e
-        ∙ ap (λ (z : ℕ). a + z) (mul-add l x (q * w) ∙ ap (λ (z : ℕ). l * x + z) (sym (mul-assoc l q w) ∙ ap (λ (z : ℕ). z * w) (mul-comm l q) ∙ mul-assoc q l w))
-        ∙ sym (add-assoc a (l * x) (q * (l * w)))
-
-pub remap-next : (a b : List ℕ) (c i : ℕ) → i < length b
-    → cell (take (suc i) b) (value a c) ≡ cell (take i b) (value a c) + c / step a i % card a i % card b i * step b i
-remap-next a b c i h =
-    cell-next b i (value a c) h ∙ ap (λ (x : ℕ). cell (take i b) (value a c) + x % card b i * step b i) (value-step a c i)
-
+-- the rest of a cell, one place more
 pub rest-next : (a : List ℕ) (c i : ℕ) → c / step a i / card a i ≡ c / step a (suc i)
 rest-next a c i = div-div-eq-div-mul c (step a i) (card a i) ∙ ap (λ (x : ℕ). c / x) (sym (step-next a i))
 
@@ -156,36 +140,6 @@ put-agree ks c d i p hc hd a =
     (λ n.
     let ne : j ≡ i → ⊥ = λ e. n (subst (λ (x : ℕ). T (eqb j x)) e (eqb-refl j)) in
     put-other ks c i j (value ks d i) p (value-lt ks d i p) ne ∙ agree-value ks (singleton i) c d j a (λ t. ne (singleton-has i j t))))
-
--- 6. the cells where the lowest condition is k: the other values of c, and k put
-pub cofactor-put : (ks : List ℕ) (k c : ℕ) → Positive ks → 1 ≤ width ks → k < card ks (lowest ks) → c < cells (without (singleton (lowest ks)) ks)
-    → put ks (remap (without (singleton (lowest ks)) ks) ks c) (lowest ks) k ≡ k + card ks (lowest ks) * c
-cofactor-put ks k c p w hk hc =
-    value-inj ks p _ d (put-lt ks (remap b ks c) i k p (cell-lt ks (value b c) p) hk) (rw (← (lowest-cells ks p w)) (digit-below (card ks i) k c (cells b) hk hc))
-    (λ j.
-    by-test (eqb j i) (λ y. subst (λ (x : ℕ). value ks (put ks (remap b ks c) i k) x ≡ value ks d x) (sym (eqb→eq j i y)) (put-same ks (remap b ks c) i k p hk ∙ sym (lowest-digit ks k c p w hk hc)))
-    (λ n.
-    let ne : j ≡ i → ⊥ = λ e. n (subst (λ (x : ℕ). T (eqb j x)) e (eqb-refl j)) in
-    put-other ks (remap b ks c) i j k p hk ne ∙ other j ne))
-  where
-    i : ℕ
-    i = lowest ks
-
-    b : List ℕ
-    b = without (singleton i) ks
-
-    d : ℕ
-    d = k + card ks i * c
-
-    other : (j : ℕ) → (j ≡ i → ⊥) → value ks (remap b ks c) j ≡ value ks d j
-    other j ne =
-        value-cell ks (value b c) j p
-        ∙ ap (λ (x : ℕ). x % card ks j)
-        (ap (λ (x : ℕ). value b x j) (sym (lowest-rest ks k c p w hk hc))
-        ∙ value-cell b (value ks d) j (without-pos (singleton i) ks p)
-        ∙ ap (λ (x : ℕ). value ks d j % x) (card-out (singleton i) ks j (λ t. ne (singleton-has i j t)))
-        ∙ mod-eq-of-lt (value-lt ks d j p))
-        ∙ mod-eq-of-lt (value-lt ks d j p)
 
 -- a set within the shape, by its conditions
 part-in : (ks : List ℕ) (s t : ℕ) → ((i : ℕ) → i < length ks → T (has s i) → T (has t i)) → T (subset ks s t)

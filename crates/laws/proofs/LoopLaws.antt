@@ -5,21 +5,20 @@ use mathlib.Core.Bool.{Bool, true, _&&_}
 use mathlib.Core.List.{List, [], _∷_, _++_, append-assoc}
 use mathlib.Core.Logic.{⊎-elim}
 use native.Mathlib.Numerals.{add-one}
-use native.Mathlib.Nat.{div-one, mul-le-mul-left, mul-le-mul-right, add-zero, add-comm, add-assoc, mul-comm, mul-add, le-refl, not-suc-le-zero, le-of-suc-le-suc, eq-or-lt-of-le, mod-lt, mod-add-div}
+use native.Mathlib.Nat.{div-one, mul-le-mul-left, add-zero, add-comm, add-assoc, mul-comm, mul-add, le-refl, not-suc-le-zero, le-of-suc-le-suc, eq-or-lt-of-le, mod-lt, mod-add-div}
 use native.Mathlib.Omega.{arith}
 use lib.Dec.{T, eqb, ltb}
 use lib.ListN.{length, getD, take}
 use Rattle.rules.specs.Bytes.{pick, at, numbersFrom}
-use Rattle.rules.specs.Cell.{value, cell, Positive, cells, card, present, lowest, step, has, insert, singleton, without, over, overTo}
+use Rattle.rules.specs.Cell.{Positive, cells, card, present, lowest, step, has, insert, singleton, without, over, overTo}
 use Rattle.rules.specs.Network.{Record, gate}
 use Rattle.rules.specs.Tree.{Tree, size, records}
 use Rattle.rules.specs.Stage.{Stage, dropOne, drops, Grouping, none, sets, pairWith, firstPair, addCondition, grow, cofactorStage, selector, splitPart, splitTo}
 use Rattle.rules.specs.declared.Gate.the-variants.{Min, Max}
 use Rattle.laws.proofs.OverLaws.{Bound}
-use Rattle.laws.proofs.UnionLaws.{digit-below}
-use Rattle.laws.proofs.CellLaws.{card-pos, cells-pos}
+use Rattle.laws.proofs.CellLaws.{cells-pos}
 use Rattle.laws.proofs.TestLaws.{cond-ok, pick-ok}
-use Rattle.laws.proofs.LineLaws.{step-next, rest-next, remap-next, over-line, put-step}
+use Rattle.laws.proofs.LineLaws.{step-next, over-line, put-step}
 
 -- over one condition: the cells c % step + c / step / card × card × step + v × step
 module _ {op : ℕ → ℕ → ℕ} {R : ℕ → ℕ → Type 0} (B : Bound op R) where
@@ -133,59 +132,26 @@ module _ (m : ℕ) (net : Stage → Tree) (x : Stage) where
       let e : at + (1 + c + 1) - 1 ≡ at + c + 1 = omega arith in
       ap₂ (λ (q : List Record) (b : ℕ). (records (splitTo m net x k) r ++ q) ++ (gate Max (at - 1) b ∷ [])) (part-records (suc k) at) e
 
--- one round of the cell map's loop over arrays of eight cardinalities
+-- loops over arrays of eight cardinalities
 pub step-le : (ks : List ℕ) (i : ℕ) → Positive ks → step ks i ≤ cells ks
 step-le [] i p = le-refl 1
 step-le (k ∷ ks) zero p = cells-pos (k ∷ ks) p
 step-le (k ∷ ks) (suc i) p = mul-le-mul-left k (step-le ks i (p .1))
-
-pub cell-take-lt : (b : List ℕ) (i : ℕ) (v : ℕ → ℕ) → Positive b → cell (take i b) v < step b i
-cell-take-lt [] zero v p = le-refl 1
-cell-take-lt [] (suc i) v p = le-refl 1
-cell-take-lt (l ∷ ls) zero v p = le-refl 1
-cell-take-lt (l ∷ ls) (suc i) v p = digit-below l _ _ _ (mod-lt (v 0) (p .0)) (cell-take-lt ls i (λ j. v (suc j)) (p .1))
 
 pub card-read : (ks : List ℕ) (i : ℕ) → i < length ks → getD ks i 0 ≡ card ks i
 card-read [] i h = absurd (not-suc-le-zero h)
 card-read (k ∷ ks) zero h = refl
 card-read (k ∷ ks) (suc i) h = card-read ks i (le-of-suc-le-suc h)
 
+-- the step of the next place
+pub step-more : (ks : List ℕ) (i stp : ℕ) → i < length ks → stp ≡ step ks i → stp * getD ks i 0 ≡ step ks (i + 1)
+step-more ks i stp h e = rw (add-one i, step-next ks i, card-read ks i h, e)
+
 pub take-whole : (ks : List ℕ) (i : ℕ) → length ks ≡ i → take i ks ≡ ks
 take-whole [] zero e = refl
 take-whole [] (suc i) e = refl
 take-whole (k ∷ ks) zero e = absurd (omega arith)
 take-whole (k ∷ ks) (suc i) e = ap (λ (l : List ℕ). k ∷ l) (take-whole ks i (omega arith))
-
-pub card-le : (ks : List ℕ) (i : ℕ) → Positive ks → card ks i ≤ cells ks
-card-le [] i p = le-refl 1
-card-le (k ∷ ks) zero p = omega (arith, mul-le-mul-left k (cells-pos ks (p .1)))
-card-le (k ∷ ks) (suc i) p = omega (arith, card-le ks i (p .1), mul-le-mul-right (cells ks) (p .0))
-
-pub record Round (a b : List ℕ) (c i rest out stp : ℕ) : Type 0 where
-  pub pos-a : 0 < getD a i 0
-  pub pos-b : 0 < getD b i 0
-  pub low-a : getD a i 0 ≤ cells a
-  pub low-b : getD b i 0 ≤ cells b
-  pub rest-is : rest / getD a i 0 ≡ c / step a (i + 1)
-  pub out-is : out + rest % getD a i 0 % getD b i 0 * stp ≡ cell (take (i + 1) b) (value a c)
-  pub step-is : stp * getD b i 0 ≡ step b (i + 1)
-  pub out-low : cell (take (i + 1) b) (value a c) ≤ cells b
-  pub step-low : step b (i + 1) ≤ cells b
-
-pub round : (a b : List ℕ) (c i rest out stp : ℕ) → Positive a → Positive b → i < length a → i < length b
-    → rest ≡ c / step a i → out ≡ cell (take i b) (value a c) → stp ≡ step b i → Round a b c i rest out stp
-round a b c i rest out stp p q ha hb er eo es =
-    record {
-      pos-a = rw (card-read a i ha) (card-pos a i p);
-      pos-b = rw (card-read b i hb) (card-pos b i q);
-      low-a = rw (card-read a i ha) (card-le a i p);
-      low-b = rw (card-read b i hb) (card-le b i q);
-      rest-is = rw (card-read a i ha, er, add-one i) (rest-next a c i);
-      out-is = rw (card-read a i ha, card-read b i hb, er, eo, es, add-one i) (sym (remap-next a b c i hb));
-      step-is = rw (card-read b i hb, es, add-one i) (sym (step-next b i));
-      out-low = omega (arith, cell-take-lt b (i + 1) (value a c) q, step-le b (i + 1) q);
-      step-low = step-le b (i + 1) q;
-    }
 
 pub step-start : (ks : List ℕ) → step ks 0 ≡ 1
 step-start [] = refl

@@ -2,14 +2,15 @@
 use Prim.Native.Nat.{ℕ, zero, suc, _+_, _*_, _/_, _%_, _≤_, _<_}
 use mathlib.Core.Path.{_≡_, refl, sym, _∙_, ap, ap₂, subst}
 use mathlib.Core.List.{List, [], _∷_}
-use native.Mathlib.Nat.{le-trans, le-antisymm, mod-one, div-one, one-mul, mul-one, zero-add, not-suc-le-zero, mul-le-mul-right, mod-add-div}
+use native.Mathlib.Nat.{le-trans, le-antisymm, mod-one, div-one, one-mul, mul-one, zero-add, not-suc-le-zero, mul-le-mul-left, mul-le-mul-right, mod-add-div}
 use native.Mathlib.Omega.{arith}
+use lib.ListN.{length}
 use lib.Dec.{T, eqb, ltb, ltb→lt, lt→ltb}
 use Rattle.rules.specs.Bytes.{pick}
 use Rattle.rules.specs.Cell.{Positive, cells, card, present, width, lowest, value, cell, remap, singleton, without}
 use Rattle.laws.proofs.UnionLaws.{digit-mod, digit-div, digit-below}
-use Rattle.laws.proofs.TestLaws.{pick-ok}
-use Rattle.laws.proofs.CellLaws.{not-above, div-below, cells-pos, value-lt, cell-lt, cell-value, without-pos, twice}
+use Rattle.laws.proofs.TestLaws.{pick-ok, by-order}
+use Rattle.laws.proofs.CellLaws.{present-lt, not-above, div-below, cells-pos, value-lt, cell-lt, cell-value, without-pos, twice}
 
 -- the shape without one condition
 pub without-none : (ks : List ℕ) → without 0 ks ≡ ks
@@ -100,6 +101,33 @@ module _ (ks : List ℕ) (p : Positive ks) (e : width ks ≡ 1) where
   one-value c hc =
       let z : remap ks (without (singleton (lowest ks)) ks) c ≡ 0 = omega (arith, one-rest, cell-lt (without (singleton (lowest ks)) ks) (value ks c) (without-pos (singleton (lowest ks)) ks p)) in
       omega (arith, lowest-cell ks c p (omega arith) hc, ap (λ (x : ℕ). card ks (lowest ks) * x) z)
+
+-- no condition or one, by the lowest condition and the number of cells
+pub lowest-past : (ks : List ℕ) → width ks ≡ 0 → lowest ks ≡ length ks
+lowest-past [] e = refl
+lowest-past (k ∷ ks) e =
+    pick-ok (λ (x : ℕ). x + width ks ≡ 0 → pick (ltb 1 k) 0 (suc (lowest ks)) ≡ suc (length ks)) (ltb 1 k) 1 0 (λ b q. absurd (omega arith))
+    (λ n q. pick-ok (λ (x : ℕ). x ≡ suc (length ks)) (ltb 1 k) 0 (suc (lowest ks)) (λ b. absurd (n b)) (λ m. ap suc (lowest-past ks (omega arith)))) e
+
+module _ (ks : List ℕ) (p : Positive ks) where
+  pub none-left : length ks ≤ lowest ks → width ks ≡ 0
+  none-left h = by-order 1 (width ks) (λ le. absurd (let l = present-lt ks (lowest ks) (lowest-present ks p le) in omega arith)) (λ lt. omega arith)
+
+  pub some-left : lowest ks < length ks → 1 ≤ width ks
+  some-left h = by-order 1 (width ks) (λ le. le) (λ z. absurd (let e = lowest-past ks (omega arith) in omega arith))
+
+  pub one-left : 1 ≤ width ks → card ks (lowest ks) ≡ cells ks → width ks < 2
+  one-left some e =
+      by-order 2 (width ks)
+      (λ le.
+      let r = width-two (without (singleton (lowest ks)) ks) (without-pos (singleton (lowest ks)) ks p) (omega (arith, lowest-width ks p some)) in
+      absurd (omega (arith, lowest-cells ks p some, lowest-two ks p some, mul-le-mul-left (card ks (lowest ks)) r)))
+      (λ lt. lt)
+
+  pub more-left : lowest ks < length ks → (card ks (lowest ks) ≡ cells ks → ⊥) → 2 ≤ width ks
+  more-left h ne =
+      by-order 2 (width ks) (λ le. le)
+      (λ lt. by-order 1 (width ks) (λ le. absurd (ne (one-cells ks p (omega arith)))) (λ z. absurd (omega (arith, some-left h))))
 
 -- the cells where it is k are k + card × c
 module _ (ks : List ℕ) (k c : ℕ) (p : Positive ks) (h : 1 ≤ width ks) (hk : k < card ks (lowest ks)) (hc : c < cells (without (singleton (lowest ks)) ks)) where

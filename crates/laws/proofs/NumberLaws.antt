@@ -10,9 +10,9 @@ use lib.ListN.{length, getD, take, List·getD-eq-default}
 use Rattle.rules.specs.Bytes.{at}
 use Rattle.rules.specs.Cell.{Positive, cells, card, step, value, number, cell, has}
 use Rattle.laws.proofs.UnionLaws.{digit-below}
-use Rattle.laws.proofs.CellLaws.{value-cell, card-pos}
+use Rattle.laws.proofs.CellLaws.{card-pos}
 use Rattle.laws.proofs.LineLaws.{step-next}
-use Rattle.laws.proofs.LoopLaws.{step-start, step-le, card-read}
+use Rattle.laws.proofs.LoopLaws.{step-start, step-le, card-read, step-more}
 
 -- one place more
 pub number-next : (ks : List ℕ) (i : ℕ) (v : ℕ → ℕ) → i < length ks → number (take (suc i) ks) v ≡ number (take i ks) v + step ks i * v i
@@ -41,9 +41,6 @@ number-cell [] v h = refl
 number-cell (k ∷ ks) v h =
     ap₂ (λ (a b : ℕ). a + k * b) (sym (mod-eq-of-lt (h 0 (omega arith)))) (number-cell ks (λ j. v (suc j)) (λ j l. h (suc j) (omega arith)))
 
-pub value-number : (ks : List ℕ) (v : ℕ → ℕ) (i : ℕ) → Positive ks → ((j : ℕ) → j < length ks → v j < card ks j) → i < length ks → value ks (number ks v) i ≡ v i
-value-number ks v i p h l = ap (λ (c : ℕ). value ks c i) (number-cell ks v h) ∙ value-cell ks v i p ∙ mod-eq-of-lt (h i l)
-
 -- a cardinality as an element of an array of eight
 pub card-positive : (ks : List ℕ) (i : ℕ) → i < length ks → Positive ks → 0 < getD ks i 0
 card-positive ks i h p = rw (card-read ks i h) (card-pos ks i p)
@@ -69,7 +66,7 @@ pub number-round : (ks : List ℕ) (v : ℕ → ℕ) (i cell stp : ℕ) → Posi
 number-round ks v i cell stp p h below ec es =
     record {
       cell-is = rw (ec, es, add-one i) (sym (number-next ks i v h));
-      step-is = rw (card-read ks i h, es, add-one i) (sym (step-next ks i));
+      step-is = step-more ks i stp h es;
       cell-low = omega (arith, number-take-lt ks (i + 1) v below, step-le ks (i + 1) p);
       step-low = step-le ks (i + 1) p;
     }

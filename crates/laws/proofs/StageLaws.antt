@@ -15,11 +15,12 @@ use Rattle.rules.specs.Tree.{Tree, fixed, lookup, treeGrade}
 use Rattle.rules.specs.Stage.{Stage, outside, computed, merged, fits, dropOne, drops, left, Choice, split, joining, chosen, firstStage, secondStage, cofactorStage, joinTree, splitPart, splitTo, choiceTree, leftTree, stageTree, treeOf, wholeTable, compiled}
 use Rattle.rules.specs.Demands.{Between, Inside, Admits, Table, StageOf, itself, first-block, second-block, cofactor}
 use Rattle.rules.specs.declared.Gate.{Gate}
-use Rattle.laws.proofs.TestLaws.{and-r, by-order, cond-ok, pick-ok}
+use Rattle.laws.proofs.TestLaws.{and-l, and-r, by-order, cond-ok, pick-ok}
 use Rattle.laws.proofs.TableLaws.{at-tabulate, all-at}
 use Rattle.laws.proofs.OverLaws.{max-bound, min-bound, over-self, over-blind}
 use Rattle.laws.proofs.UnionLaws.{digit-below}
-use Rattle.laws.proofs.CellLaws.{cell-lt, value-lt, Sub, sub-trans, sub-without, without-pos, without-le, without-lt, without-cells, moved-at, moved-blind}
+use Rattle.laws.proofs.SetLaws.{has-same}
+use Rattle.laws.proofs.CellLaws.{cells-pos, cell-lt, value-lt, Sub, sub-trans, sub-without, without-pos, without-le, without-lt, without-cells, without-half, moved-at, moved-blind}
 use Rattle.laws.proofs.LowestLaws.{no-width, lowest-two, lowest-present, lowest-fewer, lowest-cells, lowest-cell, one-cells, one-value}
 use Rattle.laws.proofs.TreeLaws.{Made, made-tabulate, made-wider, made-below, made-remap, computed-at}
 use Rattle.laws.proofs.GroupLaws.{ChoiceOf, chosen-ok}
@@ -64,15 +65,26 @@ pub record Shrunk (x y : Stage) : Type 0 where
   pub sub : Sub (y .ks) (x .ks)
   pub fewer : width (y .ks) ≤ width (x .ks)
   pub less : cells (y .ks) ≤ cells (x .ks)
+  pub same : cells (y .ks) ≡ cells (x .ks) → y .ks ≡ x .ks
 
 shrunk-one : (i : ℕ) (x : Stage) → Positive (x .ks) → Shrunk x (dropOne i x)
 shrunk-one i x p =
     cond-ok (Shrunk x) (present (x .ks) i && fits (x .ks) (merged i x)) (outside (singleton i) x (merged i x)) x
-    (λ h. record { pos = without-pos (singleton i) (x .ks) p; sub = sub-without (singleton i) (x .ks); fewer = without-le (singleton i) (x .ks); less = without-cells (singleton i) (x .ks) p })
-    (λ h. record { pos = p; sub = λ j q. refl; fewer = le-refl _; less = le-refl _ })
+    (λ h.
+    record {
+      pos = without-pos (singleton i) (x .ks) p;
+      sub = sub-without (singleton i) (x .ks);
+      fewer = without-le (singleton i) (x .ks);
+      less = without-cells (singleton i) (x .ks) p;
+      same = λ e.
+          absurd
+          (let f = without-half (singleton i) (x .ks) i p (and-l (present (x .ks) i) (fits (x .ks) (merged i x)) h) (has-same 0 i) in
+          omega (arith, cells-pos (x .ks) p));
+    })
+    (λ h. record { pos = p; sub = λ j q. refl; fewer = le-refl _; less = le-refl _; same = λ e. refl })
 
 pub drops-shrunk : (is : List ℕ) (x : Stage) → Positive (x .ks) → Shrunk x (drops is x)
-drops-shrunk [] x p = record { pos = p; sub = λ j q. refl; fewer = le-refl _; less = le-refl _ }
+drops-shrunk [] x p = record { pos = p; sub = λ j q. refl; fewer = le-refl _; less = le-refl _; same = λ e. refl }
 drops-shrunk (i ∷ is) x p =
     let a = shrunk-one i x p in
     let r = drops-shrunk is (dropOne i x) (a .pos) in
@@ -81,6 +93,7 @@ drops-shrunk (i ∷ is) x p =
       sub = sub-trans (drops is (dropOne i x) .ks) (dropOne i x .ks) (x .ks) (r .sub) (a .sub);
       fewer = le-trans (r .fewer) (a .fewer);
       less = le-trans (r .less) (a .less);
+      same = λ e. let f = r .less in let g = a .less in r .same (omega arith) ∙ a .same (omega arith);
     }
 
 pub left-shrunk : (x : Stage) → Positive (x .ks) → Shrunk x (left x)

@@ -1,5 +1,5 @@
 -- The grades of records, from their bytes.
-use Prim.Native.Nat.{ℕ, zero, suc, _+_, _≤_, _<_, min, max}
+use Prim.Native.Nat.{ℕ, zero, suc, _+_, _<_, min, max}
 use mathlib.Core.Path.{_≡_, refl, sym, _∙_, ap, ap₂}
 use mathlib.Core.Bool.{Bool, true, false, cond}
 use mathlib.Core.List.{List, [], _∷_, _++_}
@@ -15,16 +15,13 @@ use Rattle.rules.specs.declared.Gate.the-variants.{Min, Max}
 use Rattle.laws.proofs.TableLaws.{at-tabulate}
 use Rattle.network_run.specs.Grades.{gateGrade, byteGrade}
 
-pub two-or-more : (n : ℕ) → (n ≡ 0 → ⊥) → (n ≡ 1 → ⊥) → 2 ≤ n
-two-or-more zero a b = absurd (a refl)
-two-or-more (suc zero) a b = absurd (b refl)
-two-or-more (suc (suc n)) a b = omega arith
+-- a gate's grade, by its kind
+module _ (v : ℕ → ℕ) (done r : List ℕ) (left right : ℕ) (p : left ≡ word r 4) (q : right ≡ word r 6) where
+  pub byte-min : at r 0 ≡ 2 → min (at done left) (at done right) ≡ byteGrade v done r
+  byte-min e = rw e (ap₂ (λ (x y : ℕ). min (at done x) (at done y)) p q)
 
-module _ (v : ℕ → ℕ) (done r : List ℕ) where
-  pub byte-gate : (left right : ℕ) → (at r 0 ≡ 0 → ⊥) → (at r 0 ≡ 1 → ⊥) → left ≡ word r 4 → right ≡ word r 6
-      → gateGrade (at r 0) (at done left) (at done right) ≡ byteGrade v done r
-  byte-gate left right a b p q =
-      rw (ne-eqb (at r 0) 0 a, ne-eqb (at r 0) 1 b) (ap₂ (λ (x y : ℕ). gateGrade (at r 0) (at done x) (at done y)) p q)
+  pub byte-max : (at r 0 ≡ 0 → ⊥) → (at r 0 ≡ 1 → ⊥) → (at r 0 ≡ 2 → ⊥) → max (at done left) (at done right) ≡ byteGrade v done r
+  byte-max a b d = rw (ne-eqb (at r 0) 0 a, ne-eqb (at r 0) 1 b, ne-eqb (at r 0) 2 d) (ap₂ (λ (x y : ℕ). max (at done x) (at done y)) p q)
 
 -- a record as the rules read it has the same grade
 choose-record : (v : ℕ → ℕ) (done : List ℕ) (z o t : Bool) (q i : ℕ) (gs : List ℕ) (left right : ℕ)

@@ -4,7 +4,7 @@ ghost use Prim.Native.Nat.{ℕ};
 ghost use Rattle.rules.specs.Bytes.{at};
 ghost use Rattle.rules.specs.Cell.{Positive, value};
 ghost use Rattle.shape.specs.Shapes.{placesOf};
-ghost use Rattle.network_run.specs.Grades.{gateGrade, byteGrade, Readable, Ready, Ran, Graded};
+ghost use Rattle.network_run.specs.Grades.{byteGrade, Readable, Ready, Ran, Graded};
 use network_scan::word;
 use rules::PLACES;
 use rules::RECORD;
@@ -27,33 +27,21 @@ fn values_at(ks: [u8; PLACES], cell: usize) -> [u8; PLACES]
     values
 }
 
-fn gate_grade(kind: u8, left: u8, right: u8) -> u8
-    ensures { λ q. ⌜ q ≡ gateGrade kind left right ⌝ }
-{
-    if kind == kinds::MIN {
-        extremes::extreme(false, left, right)
-    } else {
-        extremes::extreme(true, left, right)
-    }
-}
-
 // The grade of the record r, from the grades of the records before it.
-fn record_grade(r: &[u8], values: [u8; PLACES], done: &[u8]) -> u8
-    requires { ⌜ Readable values (now done) (now r) ⌝ }
-    ensures { λ q. ⌜ q ≡ byteGrade (at values) (now (done .entry)) (now (r .entry)) ⌝ }
+fn record_grade(r: &[u8], values: &[u8; PLACES], done: &[u8]) -> u8
+    requires { ⌜ Readable (now values) (now done) (now r) ⌝ }
+    ensures { λ q. ⌜ q ≡ byteGrade (at (now (values .entry))) (now (done .entry)) (now (r .entry)) ⌝ }
 {
-    let kind = r[0];
-    if kind == kinds::CONSTANT {
-        return r[1];
+    match r[0] {
+        kinds::CONSTANT => r[1],
+        kinds::LITERAL => {
+            let i = r[1] as usize;
+            let value = values[i] as usize;
+            r[8 + value]
+        }
+        kinds::MIN => extremes::extreme(false, done[word(r, 4)], done[word(r, 6)]),
+        _ => extremes::extreme(true, done[word(r, 4)], done[word(r, 6)]),
     }
-    if kind == kinds::LITERAL {
-        let i = r[1] as usize;
-        let value = values[i] as usize;
-        return r[8 + value];
-    }
-    let left = word(r, 4);
-    let right = word(r, 6);
-    gate_grade(kind, done[left], done[right])
 }
 
 // Writes the grade of every record at a cell, in order, to the front of the work buffer.
@@ -66,7 +54,7 @@ fn run(network: &[u8], shape: Shape, cell: usize, work: &mut [u8])
     for k in 0..count {
         let from = RECORD * k;
         let to = from + RECORD;
-        let grade = record_grade(&network[from..to], values, &work[..k]);
+        let grade = record_grade(&network[from..to], &values, &work[..k]);
         work[k] = grade;
     }
 }

@@ -1,10 +1,10 @@
 -- Sound records and networks, test by test.
 use Prim.Native.Nat.{ℕ, _+_, _/_, _%_, _≤_, _<_}
 use mathlib.Core.Path.{_≡_, sym, _∙_, ap}
-use mathlib.Core.Bool.{Bool, false, cond, _&&_, _||_}
+use mathlib.Core.Bool.{Bool, true, false, cond, _&&_, _||_}
 use mathlib.Core.List.{List}
 use native.Mathlib.Omega.{arith}
-use borrow.Author.Tests.{lt-ltb, le-ltb}
+use borrow.Author.Tests.{ltb-true, lt-ltb, le-ltb}
 use lib.Dec.{eqb, ltb, leb}
 use lib.ListN.{length}
 use Rattle.rules.specs.Bytes.{at, all, word, recordAt}
@@ -13,6 +13,7 @@ use Rattle.rules.specs.Network.{named, literalByteSound, recordSound, networkSo
 use Rattle.laws.proofs.LoopLaws.{card-read}
 use Rattle.laws.proofs.NumberLaws.{card-past}
 use Rattle.laws.proofs.TestLaws.{and-left, and-pass}
+use Rattle.network_scan.proofs.ZeroLaws.{rowSound, row-named}
 
 -- a literal's tests, and a gate's
 module _ (ks : List ℕ) (m : ℕ) (r : List ℕ) where
@@ -50,11 +51,29 @@ module _ (ks : List ℕ) (m k : ℕ) (r : List ℕ) where
   abbrev pub bytesSound : Bool
   bytesSound = all 16 (λ j. named (at r 0) j || eqb (at r j) 0)
 
+  -- the test of a kind that is a constant's, a literal's or a gate's
+  abbrev pub kindSound : Bool → Bool → Bool
+  kindSound z o = cond z (ltb (at r 1) m) (cond o (literalSound ks m r) (gateSound k r))
+
   pub record-by : (a b z o : Bool) → ltb (at r 0) 4 ≡ a → bytesSound ≡ b → eqb (at r 0) 0 ≡ z → eqb (at r 0) 1 ≡ o
-      → recordSound ks m k r ≡ (a && (b && cond z (ltb (at r 1) m) (cond o (literalSound ks m r) (gateSound k r))))
+      → recordSound ks m k r ≡ (a && (b && kindSound z o))
   unfolding choose
   record-by a b z o p q s t =
       choose-same (ltb (at r 0) 4) bytesSound (eqb (at r 0) 0) (eqb (at r 0) 1) a b z o (ltb (at r 1) m) (literalSound ks m r) (gateSound k r) p q s t
+
+  -- a record of a known kind, by what its row gives
+  module _ (kind : ℕ) (q : Bool) (h : ltb kind 4 ≡ true) (e : at r 0 ≡ kind) (row : q ≡ rowSound kind r) where
+    record-row : (b : Bool) → q ≡ b → recordSound ks m k r ≡ (b && kindSound (eqb kind 0) (eqb kind 1))
+    record-row b w =
+        record-by true b (eqb kind 0) (eqb kind 1) (ap (λ (n : ℕ). ltb n 4) e ∙ h)
+        (ap (λ (n : ℕ). all 16 (λ j. named n j || eqb (at r j) 0)) e ∙ sym (row-named kind r (ltb-true kind 4 h)) ∙ sym row ∙ w)
+        (ap (λ (n : ℕ). eqb n 0) e) (ap (λ (n : ℕ). eqb n 1) e)
+
+    pub row-passed : q ≡ true → kindSound (eqb kind 0) (eqb kind 1) ≡ recordSound ks m k r
+    row-passed w = sym (record-row true w)
+
+    pub row-failed : q ≡ false → q ≡ recordSound ks m k r
+    row-failed w = w ∙ sym (record-row false w)
 
 -- a network's tests, in their order
 lengths : (a b d e : Bool) → Bool

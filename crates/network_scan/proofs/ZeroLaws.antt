@@ -1,7 +1,7 @@
 -- The table of the bytes that must be zero: its rule at every entry, by one test that is computed.
 use Prim.Native.Nat.{ℕ, zero, suc, _<_}
 use mathlib.Core.Path.{_≡_, refl, _∙_, ap, ap₂}
-use mathlib.Core.Bool.{Bool, true, false, _&&_, _||_}
+use mathlib.Core.Bool.{Bool, true, false, _||_, _&&_}
 use native.Mathlib.Omega.{arith}
 use mathlib.Core.List.{List, [], _∷_}
 use lib.Dec.{eqb, eqb→eq}
@@ -39,7 +39,10 @@ all-below zero p q h = refl
 all-below (suc n) p q h = ap₂ _&&_ (all-below n p q (λ k l. h k (omega arith))) (h n (omega arith))
 
 -- the test of a record's bytes by its kind's row
-pub row-named : (kind : ℕ) (r : List ℕ) → kind < 4 → all 16 (λ j. eqb (at (getD table kind []) j) 0 || eqb (at r j) 0) ≡ all 16 (λ j. named kind j || eqb (at r j) 0)
+abbrev pub rowSound : ℕ → List ℕ → Bool
+rowSound kind r = all 16 (λ j. eqb (at (getD table kind []) j) 0 || eqb (at r j) 0)
+
+pub row-named : (kind : ℕ) (r : List ℕ) → kind < 4 → rowSound kind r ≡ all 16 (λ j. named kind j || eqb (at r j) 0)
 row-named kind r h =
     all-below 16 (λ j. eqb (at (getD table kind []) j) 0 || eqb (at r j) 0) (λ j. named kind j || eqb (at r j) 0)
     (λ j l. entry-test kind j (at (getD table kind []) j) (eqb (at r j) 0) (entry kind j h l))

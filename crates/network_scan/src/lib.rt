@@ -9,7 +9,7 @@ ghost use lib.Dec.{eqb, ltb};
 ghost use lib.ListN.{length};
 ghost use Rattle.rules.specs.Bytes.{pick, at, all, word, recordAt};
 ghost use Rattle.rules.specs.Cell.{card, present};
-ghost use Rattle.rules.specs.Network.{named, literalByteSound, recordSound, networkSound};
+ghost use Rattle.rules.specs.Network.{literalByteSound, recordSound, networkSound};
 
 const MAX_RECORDS: usize = 4096;
 
@@ -38,24 +38,6 @@ fn row_sound(r: &[u8], row: [u8; RECORD]) -> bool
         sum = sum + must_be_zero(row[j], r[j]);
     }
     sum == 0
-}
-
-// Whether every byte that must be zero is. Each row is read by its own number: a constant table is laid
-// out anew wherever it is read by a number that is not known.
-fn bytes_sound(r: &[u8], kind: usize) -> bool
-    requires { ⌜ (length (now r) ≡ 16) × (kind < 4) ⌝ }
-    ensures { λ q. ⌜ q ≡ all 16 (λ j. named kind j || eqb (at (now (r .entry)) j) 0) ⌝ }
-{
-    if kind == 0 {
-        return row_sound(r, MUST_BE_ZERO[0]);
-    }
-    if kind == 1 {
-        return row_sound(r, MUST_BE_ZERO[1]);
-    }
-    if kind == 2 {
-        return row_sound(r, MUST_BE_ZERO[2]);
-    }
-    row_sound(r, MUST_BE_ZERO[3])
 }
 
 // What is wrong with a literal's byte for one value: 0 for nothing.
@@ -116,25 +98,19 @@ fn gate_sound(r: &[u8], k: usize) -> bool
     word(r, 6) < k
 }
 
-// Whether the sixteen bytes r are sound as record k.
+// Whether the sixteen bytes r are sound as record k. Each row is read by its own number: a constant table is
+// laid out anew wherever it is read by a number that is not known.
 fn record_sound(r: &[u8], ks: [u8; PLACES], m: u8, k: usize) -> bool
     requires { ⌜ length (now r) ≡ 16 ⌝ }
     ensures { λ q. ⌜ q ≡ recordSound ks m k (now (r .entry)) ⌝ }
 {
-    let kind = r[0] as usize;
-    if 4 <= kind {
-        return false;
+    match r[0] {
+        kinds::CONSTANT => row_sound(r, MUST_BE_ZERO[0]) && r[1] < m,
+        kinds::LITERAL => row_sound(r, MUST_BE_ZERO[1]) && literal_sound(r, ks, m),
+        kinds::MIN => row_sound(r, MUST_BE_ZERO[2]) && gate_sound(r, k),
+        kinds::MAX => row_sound(r, MUST_BE_ZERO[3]) && gate_sound(r, k),
+        _ => false,
     }
-    if !bytes_sound(r, kind) {
-        return false;
-    }
-    if kind == kinds::CONSTANT as usize {
-        return r[1] < m;
-    }
-    if kind == kinds::LITERAL as usize {
-        return literal_sound(r, ks, m);
-    }
-    gate_sound(r, k)
 }
 
 // The same for record k of a network.

@@ -1,17 +1,16 @@
 -- What the loops over sets and over places find.
 use Prim.Native.Nat.{ℕ, zero, suc, _+_, _-_, _/_, _%_, _≤_, _<_}
-use mathlib.Core.Path.{_≡_, refl, sym, _∙_, ap}
+use mathlib.Core.Path.{_≡_, sym, _∙_, ap}
 use mathlib.Core.Bool.{true, false}
 use mathlib.Core.List.{List, [], _∷_}
 use native.Mathlib.Nat.{add-assoc, le-refl, mod-lt}
-use native.Mathlib.Numerals.{add-one}
 use native.Mathlib.Omega.{arith}
 use borrow.Author.Count.{below-more}
-use lib.Dec.{T, eqb, ltb, eqb→eq}
-use lib.ListN.{length, getD, set, drop, length-set}
-use lib.Seq.{drop-cons, getD-set-same, getD-set-other, ext-getD}
+use lib.Dec.{T, eqb, eqb→eq}
+use lib.ListN.{length, getD, set, length-set}
+use lib.Seq.{getD-set-same, getD-set-other, ext-getD}
 use Rattle.rules.specs.Bytes.{pick, at}
-use Rattle.rules.specs.Cell.{card, has, insert, singleton, without, width}
+use Rattle.rules.specs.Cell.{card, has, insert, singleton, without}
 use Rattle.rules.specs.Stage.{members}
 use Rattle.laws.proofs.CellLaws.{div-below, length-without}
 use Rattle.laws.proofs.LoopLaws.{bit, insert-bit, without-card}
@@ -50,17 +49,11 @@ members-le zero s = omega arith
 members-le (suc n) s = let h : s % 2 < 2 = mod-lt s (omega arith) in omega (arith, members-le n (s / 2))
 
 -- one place more of a count
-pub width-more : (ks : List ℕ) (i : ℕ) → i < length ks → width (drop i ks) ≡ pick (ltb 1 (getD ks i 0)) 1 0 + width (drop (i + 1) ks)
-width-more ks i h = rw (add-one i) (ap width (drop-cons ks i 0 h))
-
 -- the conditions of a set taken from the places below i
 pub record Taken (t : ℕ) (ks : List ℕ) (i : ℕ) (left : List ℕ) : Type 0 where
   pub len : length left ≡ length ks
   pub done : (j : ℕ) → j < i → card left j ≡ pick (has t j) 1 (card ks j)
   pub rest : (j : ℕ) → i ≤ j → card left j ≡ card ks j
-
-pub taken-none : (t : ℕ) (ks : List ℕ) → Taken t ks 0 ks
-taken-none t ks = record { len = refl; done = λ j h. absurd (omega arith); rest = λ j h. refl }
 
 pub taken-skip : {t : ℕ} {ks : List ℕ} {i : ℕ} {left : List ℕ} → Taken t ks i left → has t i ≡ false → Taken t ks (i + 1) left
 taken-skip {t} {ks} {i} {left} l e =

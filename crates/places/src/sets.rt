@@ -4,7 +4,7 @@ use rules::PLACES;
 ghost use Prim.Native.Nat.{_<_};
 ghost use mathlib.Core.Path.{_≡_};
 ghost use lib.Dec.{T};
-ghost use Rattle.rules.specs.Cell.{has, insert, singleton, without, width, lowest};
+ghost use Rattle.rules.specs.Cell.{has, insert, singleton, without, lowest};
 ghost use Rattle.rules.specs.Stage.{count};
 
 const BITS: [u8; PLACES] = [1, 2, 4, 8, 16, 32, 64, 128];
@@ -49,19 +49,6 @@ pub fn without(ks: [u8; PLACES], set: u8) -> [u8; PLACES]
         }
     }
     left
-}
-
-// How many conditions the places have.
-pub fn width(ks: [u8; PLACES]) -> usize
-    ensures { λ r. ⌜ r ≡ width ks ⌝ }
-{
-    let mut found: usize = 0;
-    for i in 0..PLACES {
-        if 1 < ks[i] {
-            found += 1;
-        }
-    }
-    found
 }
 
 // The condition with the lowest number, 8 where there is none.

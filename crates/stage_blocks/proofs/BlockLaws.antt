@@ -35,16 +35,16 @@ pub there : (w : List ℕ) {c k : ℕ} (i : ℕ) → c ≡ k → part w (i * c) 
 there w {c} {k} i e = ap (λ (x : ℕ). part w (i * x) k) e
 
 -- two tables moved to 8 × c
-module _ {w ks b : List ℕ} {c : ℕ} (r : LimitsRoom w ks b c) (low high : ℕ) (hl : low + cells ks ≤ 8 * c) (hh : high + cells ks ≤ 8 * c) where
-  pub lay-lower : Shaped ks × Shaped b × Apart w low (cells ks) (8 * c) (cells b)
-  lay-lower = let s = r .space in (r .own .shaped, r .shaped, before low (cells ks) (8 * c) (cells b) hl (omega arith))
+module _ {w ks b : List ℕ} {c k : ℕ} (r : LimitsRoom w ks b c) (low high : ℕ) (hl : low + cells ks ≤ 8 * c) (hh : high + cells ks ≤ 8 * c) (e : k ≡ cells b) where
+  pub lay-lower : Shaped ks × Shaped b × (k ≡ cells b) × Apart w low (cells ks) (8 * c) (cells b)
+  lay-lower = let s = r .space in (r .own .shaped, r .shaped, e, before low (cells ks) (8 * c) (cells b) hl (omega arith))
 
-  module _ {w₁ : List ℕ} (l : Laid w (8 * c) (moved ks b (part w low (cells ks))) (cells b) w₁) {k : ℕ} (e : k ≡ cells b) where
-    pub lay-upper : Shaped ks × Shaped b × Apart w₁ high (cells ks) (8 * c + k) (cells b)
+  module _ {w₁ : List ℕ} (l : Laid w (8 * c) (moved ks b (part w low (cells ks))) (cells b) w₁) where
+    pub lay-upper : Shaped ks × Shaped b × (k ≡ cells b) × Apart w₁ high (cells ks) (8 * c + k) (cells b)
     lay-upper =
         let s = r .space in
         let q = l .len in
-        (r .own .shaped, r .shaped, before high (cells ks) (8 * c + k) (cells b) (omega arith) (omega arith))
+        (r .own .shaped, r .shaped, e, before high (cells ks) (8 * c + k) (cells b) (omega arith) (omega arith))
 
     pub both-laid : {w₂ : List ℕ} → Laid w₁ (8 * c + k) (moved ks b (part w₁ high (cells ks))) (cells b) w₂ → LimitsLaid ks b (stageAt ks w low high .limits) c w w₂
     both-laid {w₂} j =
@@ -212,8 +212,8 @@ turned-length Min n m t e = length-tabulateFrom _ 0 n
 
 -- the second block's table
 module _ {w ks a : List ℕ} {m s c : ℕ} (r : SecondRoom w ks a m s c) where
-  pub second-moved : Shaped a × Shaped ks × Apart w (8 * c) (cells a) (6 * c) (cells ks)
-  second-moved = let o = r .own .own in (r .shaped, r .own .shaped, behind (8 * c) (cells a) (6 * c) (cells ks) (omega arith) (r .block))
+  pub second-moved : Shaped a × Shaped ks × (c ≡ cells ks) × Apart w (8 * c) (cells a) (6 * c) (cells ks)
+  second-moved = let o = r .own .own in (r .shaped, r .own .shaped, o, behind (8 * c) (cells a) (6 * c) (cells ks) (omega arith) (r .block))
 
   module _ {w₁ : List ℕ} (l₁ : Laid w (6 * c) (moved a ks (part w (8 * c) (cells a))) (cells ks) w₁) where
     pub second-exchange : (1 ≤ m) × Two w₁ (6 * c) (7 * c) c × Below w₁ (6 * c) c m
@@ -284,8 +284,8 @@ module _ {w ks a : List ℕ} {m s c : ℕ} (r : SecondRoom w ks a m s c) where
 
 -- what the two blocks come to
 module _ {w ks b : List ℕ} {c : ℕ} (r : JoinedRoom w ks b c) where
-  pub joined-moved : Shaped b × Shaped ks × Apart w (8 * c) (cells b) (7 * c) (cells ks)
-  joined-moved = let o = r .own .own in (r .shaped, r .own .shaped, behind (8 * c) (cells b) (7 * c) (cells ks) (omega arith) (r .block))
+  pub joined-moved : Shaped b × Shaped ks × (c ≡ cells ks) × Apart w (8 * c) (cells b) (7 * c) (cells ks)
+  joined-moved = let o = r .own .own in (r .shaped, r .own .shaped, o, behind (8 * c) (cells b) (7 * c) (cells ks) (omega arith) (r .block))
 
   module _ {w₁ : List ℕ} (l : Laid w (7 * c) (moved b ks (part w (8 * c) (cells b))) (cells ks) w₁) where
     pub joined-combine : Two w₁ (6 * c) 0 c × Two w₁ (7 * c) 0 c

@@ -16,8 +16,9 @@ fn lay(w: &mut [u8], ks: [u8; PLACES], b: [u8; PLACES], low: usize, high: usize,
     requires { ⌜ LimitsRoom (now w) ks b c × (low + cells ks ≤ 8 * c) × (high + cells ks ≤ 8 * c) ⌝ }
     ensures { λ _. ⌜ LimitsLaid ks b (stageAt ks (now (w .entry)) low high .limits) c (now (w .entry)) (now (w .exit)) ⌝ }
 {
-    moves::moved(w, ks, b, low, 8 * c);
-    moves::moved(w, ks, b, high, 8 * c + places::cell_count(b));
+    let n = places::cell_count(b);
+    moves::moved(w, ks, b, n, low, 8 * c);
+    moves::moved(w, ks, b, n, high, 8 * c + n);
 }
 
 // The same, the limits being exchanged for min: parts 2 and 3 are then lost.
@@ -76,7 +77,7 @@ pub fn second_table(
     ensures { λ r. ⌜ SecondLaid gate m ks a s c (now (w .entry)) r (now (w .exit)) ⌝ }
 {
     let b = sets::without(ks, s);
-    moves::moved(w, a, ks, 8 * c, 6 * c);
+    moves::moved(w, a, ks, c, 8 * c, 6 * c);
     join_tables::exchange_block(w, gate, m, 6 * c, 7 * c, c);
     join_tables::greatest_above(w, ks, s, 0, 7 * c, c, c);
     lay_limits(w, gate, m, ks, b, c, 5 * c, c);
@@ -88,6 +89,6 @@ pub fn joined(w: &mut [u8], gate: Gate, ks: [u8; PLACES], b: [u8; PLACES], c: us
     requires { ⌜ JoinedRoom (now w) ks b c ⌝ }
     ensures { λ _. ⌜ JoinedLaid gate ks b c (now (w .entry)) (now (w .exit)) ⌝ }
 {
-    moves::moved(w, b, ks, 8 * c, 7 * c);
+    moves::moved(w, b, ks, c, 8 * c, 7 * c);
     fill::combine(w, gate, 6 * c, 7 * c, 0, c);
 }

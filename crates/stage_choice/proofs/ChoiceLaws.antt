@@ -104,8 +104,8 @@ space h e s low a b f g l =
     }
 
 pub spaces : {w ks : List ℕ} {n : ℕ} → Shaped ks → n ≡ cells ks → Spaced w n → (low high a b : ℕ) → low + n ≤ high → high + n ≤ a → a + n ≤ b → b + n ≤ 8 * n
-    → Space w ks low a b × Space w ks high a b
-spaces h e s low high a b f g i l = (space h e s low a b (omega arith) i l, space h e s high a b g i l)
+    → (n ≡ cells ks) × Space w ks low a b × Space w ks high a b
+spaces h e s low high a b f g i l = (e, space h e s low a b (omega arith) i l, space h e s high a b g i l)
 
 pub room-spaced : {w ks : List ℕ} {n : ℕ} → Room w ks n → Spaced w n
 room-spaced p = record { room = p .room }

@@ -74,9 +74,9 @@ pub fn choose(w: &mut [u8], ks: [u8; PLACES], m: u8, n: usize) -> Choice
     requires { ⌜ Room (now w) ks n × Proper m (frontStage ks (now w)) ⌝ }
     ensures { λ r. ⌜ Chosen m (frontStage ks (now (w .entry))) (now (w .entry)) r (now (w .exit)) ⌝ }
 {
-    let by_max = grouping::group(w, ks, 0, n, 4 * n, 5 * n);
+    let by_max = grouping::group(w, ks, n, 0, n, 4 * n, 5 * n);
     exchange_limits(w, m, n);
-    let by_min = grouping::group(w, ks, 2 * n, 3 * n, 6 * n, 7 * n);
+    let by_min = grouping::group(w, ks, n, 2 * n, 3 * n, 6 * n, 7 * n);
     let choice = decide(by_max, by_min);
     settle(w, choice, n);
     choice

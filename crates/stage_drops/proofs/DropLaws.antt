@@ -12,14 +12,13 @@ use Rattle.rules.specs.Stage.{Stage, outside, merged, fits, dropOne, drops, lef
 use Rattle.laws.proofs.TableLaws.{length-tabulateFrom}
 use Rattle.laws.proofs.CellLaws.{length-without, without-cells, without-pos}
 use Rattle.laws.proofs.LineLaws.{step-pos, step-without}
-use Rattle.laws.proofs.LoopLaws.{step-start, step-le, drops-next}
+use Rattle.laws.proofs.LoopLaws.{step-start, step-le, step-more, drops-next}
 use Rattle.laws.proofs.StageLaws.{drops-shrunk}
 use Rattle.tables.specs.Part.{part, Laid, Shaped}
 use Rattle.tables.specs.Line.{best, lineExtremes}
 use Rattle.tables.proofs.PartLaws.{part-same, laid-part}
 use Rattle.tables.proofs.OverLaws.{Counted}
 use Rattle.tables.proofs.PackLaws.{packed-cells, packed-over}
-use Rattle.grouping.proofs.SearchLaws.{step-more}
 use Rattle.stage_drops.specs.Working.{Room, Trying, frontStage, Turned}
 
 pub fewer-shaped : (t : ℕ) {ks : List ℕ} → Shaped ks → Shaped (without t ks)

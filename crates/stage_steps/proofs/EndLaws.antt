@@ -1,18 +1,22 @@
 -- The one record of a stage with no condition left or one, and a function moved to a stage's own places.
 use Prim.Native.Nat.{ℕ, _+_, _*_, _≤_, _<_}
 use mathlib.Core.Path.{_≡_, refl, sym, _∙_, ap, subst}
+use mathlib.Core.Bool.{Bool, true, false}
 use mathlib.Core.List.{List, [], _∷_}
 use mathlib.Core.Logic.{inl, inr}
 use native.Mathlib.Omega.{arith}
+use lib.Dec.{ltb, eqb}
 use lib.ListN.{length, getD}
+use borrow.Author.Tests.{eqb-true, eqb-false, lt-ltb, le-ltb}
 use Rattle.rules.specs.Bytes.{at, tabulate}
 use Rattle.rules.specs.Cell.{Positive, cells, card, width, lowest, remap, moved}
 use Rattle.rules.specs.Network.{Record, constant, literal, recordBytes}
 use Rattle.rules.specs.Tree.{Tree, records}
 use Rattle.rules.specs.Stage.{Stage, leftTree}
-use Rattle.laws.proofs.CellLaws.{cells-pos, cell-value, present-lt}
+use Rattle.laws.proofs.CellLaws.{cells-pos, cell-value}
 use Rattle.laws.proofs.LoopLaws.{card-read}
-use Rattle.laws.proofs.LowestLaws.{lowest-present, one-cells}
+use Rattle.laws.proofs.LowestLaws.{one-cells, none-left, some-left, one-left, more-left}
+use Rattle.laws.proofs.TestLaws.{by-order}
 use Rattle.laws.proofs.TableLaws.{length-tabulateFrom, tabulate-same, tabulate-self}
 use Rattle.tables.specs.Part.{part, Laid, Apart}
 use Rattle.tables.proofs.PartLaws.{part-at, part-length, laid-part}
@@ -42,18 +46,17 @@ leaf-none {ks} {w} {net} {r} {net′} p e =
 pub record One (w net ks : List ℕ) (r i : ℕ) : Type 0 where
   pub room : LeafRoom w net ks r
   pub places : length ks ≡ 8
-  pub some : 1 ≤ width ks
   pub found : i ≡ lowest ks
+  pub place : i < 8
 
 module _ {w net ks : List ℕ} {r i : ℕ} (o : One w net ks r i) where
-  pub one-place : i < 8
-  one-place = rw (o .found) (omega (arith, present-lt ks (lowest ks) (lowest-present ks (o .room .shaped .some) (o .some)), o .places))
-
   one-width : width ks ≡ 1
-  one-width = let s = o .some in let n = o .room .narrow in omega arith
+  one-width =
+      let e = o .found in let h = o .place in let l = o .places in
+      let s = some-left ks (o .room .shaped .some) (omega arith) in let n = o .room .narrow in omega arith
 
   one-card : getD ks i 0 ≡ card ks (lowest ks)
-  one-card = card-read ks i (let e = o .places in omega (arith, one-place)) ∙ ap (card ks) (o .found)
+  one-card = card-read ks i (let e = o .places in let h = o .place in omega arith) ∙ ap (card ks) (o .found)
 
   one-all : getD ks i 0 ≡ cells ks
   one-all = one-card ∙ one-cells ks (o .room .shaped .some) one-width
@@ -75,9 +78,11 @@ moved-self ks f p e =
     subst (λ (n : ℕ). tabulate n (λ c. at f (remap ks ks c)) ≡ f) e
     (tabulate-self (λ c. at f (remap ks ks c)) f (λ c l. ap (at f) (cell-value ks c p (omega arith))))
 
-module _ {w ks b : List ℕ} (p : SpreadRoom w ks b) where
-  pub spread-none : b ≡ ks → SpreadLaid ks b w w
-  spread-none e =
+module _ {w ks b : List ℕ} {n c : ℕ} (p : SpreadRoom w ks b n c) where
+  pub spread-none : n ≡ c → SpreadLaid ks b w w
+  spread-none q =
+      let e = p .same q in
+      let a = p .all in
       record {
         here =
             subst (λ (a : List ℕ). part w 0 (cells ks) ≡ moved a ks (part w 0 (cells a))) (sym e)
@@ -86,22 +91,40 @@ module _ {w ks b : List ℕ} (p : SpreadRoom w ks b) where
       }
 
   -- a copy behind the tables of ks, moved from there
-  module _ {n k : ℕ} (eb : n ≡ cells b) (ek : k ≡ cells ks) where
-    pub copy-room : Apart w 0 n (2 * k) n
-    copy-room = let o = p .own in let h = p .room in record { src = omega arith; dst = omega arith; apart = inl (omega arith) }
+  pub copy-room : Apart w 0 n (2 * c) n
+  copy-room = let o = p .less in let h = p .room in record { src = omega arith; dst = omega arith; apart = inl (omega arith) }
 
-    pub moved-room : {v : List ℕ} → Laid w (2 * k) (part w 0 n) n v → Apart v (2 * k) (cells b) 0 (cells ks)
-    moved-room l = let o = p .own in let h = p .room in let q = l .len in record { src = omega arith; dst = omega arith; apart = inr (omega arith) }
+  module _ {v : List ℕ} (l : Laid w (2 * c) (part w 0 n) n v) where
+    pub moved-room : Apart v (2 * c) (cells b) 0 (cells ks)
+    moved-room =
+        let o = p .less in let h = p .room in let q = l .len in let e = p .left in let a = p .all in
+        record { src = omega arith; dst = omega arith; apart = inr (omega arith) }
 
-    pub spread-some : {v w′ : List ℕ} → Laid w (2 * k) (part w 0 n) n v → Laid v 0 (moved b ks (part v (2 * k) (cells b))) (cells ks) w′ → SpreadLaid ks b w w′
-    spread-some {v} {w′} l m =
-        let o = p .own in
+    pub spread-some : {w′ : List ℕ} → Laid v 0 (moved b ks (part v (2 * c) (cells b))) (cells ks) w′ → SpreadLaid ks b w w′
+    spread-some {w′} m =
+        let o = p .less in
         let h = p .room in
         let q = l .len in
-        let copied : part v (2 * k) n ≡ part w 0 n = laid-part l (omega arith) (part-length w 0 n (omega arith)) in
+        let a = p .all in
+        let copied : part v (2 * c) n ≡ part w 0 n = laid-part l (omega arith) (part-length w 0 n (omega arith)) in
         record {
           here =
               laid-part m (omega arith) (length-tabulateFrom _ 0 (cells ks))
-              ∙ ap (moved b ks) (subst (λ (x : ℕ). part v (2 * k) x ≡ part w 0 x) eb copied);
+              ∙ ap (moved b ks) (subst (λ (x : ℕ). part v (2 * c) x ≡ part w 0 x) (p .left) copied);
           len = m .len ∙ l .len;
         }
+
+-- none left or one, by the tests that are made
+module _ (ks : List ℕ) {i n : ℕ} (p : Positive ks) (ei : i ≡ lowest ks) (en : n ≡ cells ks) (places : length ks ≡ 8) where
+  pub narrow-none : 8 ≤ i → true ≡ ltb (width ks) 2
+  narrow-none h = sym (lt-ltb (width ks) 2 (omega (arith, none-left ks p (omega arith))))
+
+  module _ (lt : i < 8) where
+    card-is : getD ks i 0 ≡ card ks (lowest ks)
+    card-is = card-read ks i (omega arith) ∙ ap (card ks) ei
+
+    pub narrow-one : (b : Bool) → eqb (getD ks i 0) n ≡ b → b ≡ ltb (width ks) 2
+    narrow-one true e =
+        let q : card ks (lowest ks) ≡ cells ks = sym card-is ∙ eqb-true (getD ks i 0) n e ∙ en in
+        by-order 1 (width ks) (λ some. sym (lt-ltb (width ks) 2 (one-left ks p some q))) (λ none. sym (lt-ltb (width ks) 2 (omega arith)))
+    narrow-one false e = sym (le-ltb (width ks) 2 (more-left ks p (omega arith) (λ q. eqb-false (getD ks i 0) n e (card-is ∙ q ∙ sym en))))

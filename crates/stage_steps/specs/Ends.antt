@@ -25,12 +25,16 @@ pub record LeafPut (ks w net : List ℕ) (r : ℕ) (net′ : List ℕ) : Type 0 
   pub put : (m : ℕ) (sub : Stage → Tree) (u : List ℕ)
       → Put net r (records (leftTree m sub (width ks) (stageOf ks (record { lower = part w 0 (cells ks); upper = u }))) r) net′
 
--- a function over the places b at the front of a buffer with parts of as many cells as ks has, to be moved to ks
-pub record SpreadRoom (w ks b : List ℕ) : Type 0 where
+-- a function over the places b at the front of a buffer with parts of as many cells as ks has, to be moved to ks: with as many cells these
+-- are the same places
+pub record SpreadRoom (w ks b : List ℕ) (n c : ℕ) : Type 0 where
   pub shaped : Shaped ks
   pub fewer : Shaped b
-  pub own : cells b ≤ cells ks
-  pub room : 8 * cells ks ≤ length w
+  pub left : n ≡ cells b
+  pub all : c ≡ cells ks
+  pub less : n ≤ c
+  pub same : n ≡ c → b ≡ ks
+  pub room : 8 * c ≤ length w
 
 pub record SpreadLaid (ks b w w′ : List ℕ) : Type 0 where
   pub here : part w′ 0 (cells ks) ≡ moved b ks (part w 0 (cells b))

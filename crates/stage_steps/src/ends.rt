@@ -3,26 +3,38 @@
 use network_records::put_constant;
 use network_records::put_gate;
 use network_records::put_literal;
-use places::sets;
 use rules::Gate;
 use rules::PLACES;
 use tables::fill;
 use tables::moves;
 ghost use Prim.Native.Nat.{_*_, _+_};
 ghost use mathlib.Core.Path.{_≡_};
-ghost use mathlib.Core.Bool.{true};
+ghost use lib.Dec.{ltb};
+ghost use Rattle.rules.specs.Cell.{cells, width, lowest};
+ghost use Rattle.tables.specs.Part.{Shaped};
 ghost use Rattle.stage_steps.specs.Ends.{LeafRoom, LeafPut, CloseRoom, Closed, SpreadRoom, SpreadLaid};
 
-// Step 2: a constant or a literal, of the lower grades at the front of the buffer.
-pub fn leaf(w: &[u8], network: &mut [u8], ks: [u8; PLACES], r: usize)
-    requires { ⌜ LeafRoom (now w) (now network) ks r ⌝ }
+// Whether no condition is left or one, by the lowest condition and the number of cells.
+pub fn narrow(ks: [u8; PLACES], i: usize, n: usize) -> bool
+    requires { ⌜ Shaped ks × (i ≡ lowest ks) × (n ≡ cells ks) ⌝ }
+    ensures { λ r. ⌜ r ≡ ltb (width ks) 2 ⌝ }
+{
+    if PLACES <= i {
+        return true;
+    }
+    ks[i] as usize == n
+}
+
+// Step 2: a constant or a literal, of the lower grades at the front of the buffer. The lowest condition
+// is i.
+pub fn leaf(w: &[u8], network: &mut [u8], ks: [u8; PLACES], i: usize, r: usize)
+    requires { ⌜ LeafRoom (now w) (now network) ks r × (i ≡ lowest ks) ⌝ }
     ensures { λ _. ⌜ LeafPut ks (now (w .entry)) (now (network .entry)) r (now (network .exit)) ⌝ }
 {
-    if sets::width(ks) == 0 {
+    if PLACES <= i {
         put_constant(network, r, w[0]);
         return;
     }
-    let i = sets::lowest(ks);
     put_literal(network, r, i as u8, w, ks[i] as usize);
 }
 
@@ -46,27 +58,16 @@ pub fn close_join(
     e + 1
 }
 
-fn same(a: [u8; PLACES], b: [u8; PLACES]) -> bool
-    ensures { λ r. ⌜ (r ≡ true → a ≡ b) ⌝ }
-{
-    for i in 0..PLACES {
-        if a[i] != b[i] {
-            return false;
-        }
-    }
-    true
-}
-
-// The function of the conditions left, over all conditions of the stage. Nothing moves where none was
+// The function of the n cells left, over all c cells of the stage. Nothing moves where no condition was
 // dropped.
-pub fn spread(w: &mut [u8], b: [u8; PLACES], ks: [u8; PLACES])
-    requires { ⌜ SpreadRoom (now w) ks b ⌝ }
+pub fn spread(w: &mut [u8], b: [u8; PLACES], ks: [u8; PLACES], n: usize, c: usize)
+    requires { ⌜ SpreadRoom (now w) ks b n c ⌝ }
     ensures { λ _. ⌜ SpreadLaid ks b (now (w .entry)) (now (w .exit)) ⌝ }
 {
-    if same(b, ks) {
+    if n == c {
         return;
     }
-    let spare = 2 * places::cell_count(ks);
-    fill::copy(w, 0, spare, places::cell_count(b));
-    moves::moved(w, b, ks, spare, 0);
+    let spare = 2 * c;
+    fill::copy(w, 0, spare, n);
+    moves::moved(w, b, ks, c, spare, 0);
 }

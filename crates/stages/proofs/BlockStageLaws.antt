@@ -102,11 +102,11 @@ module _ {gate : Gate} {m : ℕ} {ks : List ℕ} {l : Limits} {s t c : ℕ} {w n
     first-stage : stageAt a (rest (8 * c) w₁) 0 (cells a) ≡ A
     first-stage = child-stage first-lent (f .stage s l (j .tables))
 
-    pub first-starts : Starts m a (rest (8 * c) w₁) net r
-    first-starts =
+    pub first-starts : {n : ℕ} → n ≡ cells a → Starts m a n (rest (8 * c) w₁) net r
+    first-starts e =
         let i = j .fits .numbers in
         let u = j .fits .room in
-        child-starts first-lent (A .limits) first-stage (first-ready m gate s t y ready admits)
+        child-starts first-lent (A .limits) e first-stage (first-ready m gate s t y ready admits)
         (record { numbers = omega arith; room = omega arith })
 
     pub first-fewer : 2 * width a + 1 < 2 * width ks
@@ -178,13 +178,13 @@ module _ {gate : Gate} {m : ℕ} {ks : List ℕ} {l : Limits} {s t c : ℕ} {w n
         second-ready-here : Ready m B
         second-ready-here = second-ready m gate s t y ready admits g (first-inside m (treeOf m) (width ks) (λ z h q. network-ok m z q) y (omega arith) ready gate s t admits)
 
-        pub second-starts : Starts m b (rest (8 * c) w₃) net₁ e₁
-        second-starts =
+        pub second-starts : {n : ℕ} → n ≡ cells b → Starts m b n (rest (8 * c) w₃) net₁ e₁
+        second-starts e =
             let i = j .fits .numbers in
             let u = j .fits .room in
             let p = first-done .count in
             let d = first-done .put .bytes .len in
-            child-starts second-lent (B .limits) second-stage second-ready-here (record { numbers = omega arith; room = omega arith })
+            child-starts second-lent (B .limits) e second-stage second-ready-here (record { numbers = omega arith; room = omega arith })
 
         pub second-fewer : 2 * width b + 1 < 2 * width ks
         second-fewer = falls second-lent

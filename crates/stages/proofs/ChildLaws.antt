@@ -32,9 +32,10 @@ few-without t ks h i =
 
 -- what the buffer holds is the stage A
 module _ (m : ℕ) {a w : List ℕ} (A : Stage) (e : stageAt a w 0 (cells a) ≡ A) where
-  pub starts-as : {net : List ℕ} {r : ℕ} → Shaped (A .ks) → ((i : ℕ) → card (A .ks) i ≤ 8) → 16 * cells (A .ks) ≤ length w → Ready m A → Fits (treeOf m A) net r → Starts m a w net r
-  starts-as {net} {r} s f l p t =
+  pub starts-as : {c : ℕ} {net : List ℕ} {r : ℕ} → c ≡ cells a → Shaped (A .ks) → ((i : ℕ) → card (A .ks) i ≤ 8) → 16 * cells (A .ks) ≤ length w → Ready m A → Fits (treeOf m A) net r → Starts m a c w net r
+  starts-as {c} {net} {r} o s f l p t =
       record {
+        own = o;
         shaped = subst (λ (x : Stage). Shaped (x .ks)) (sym e) s;
         few = subst (λ (x : Stage). (i : ℕ) → card (x .ks) i ≤ 8) (sym e) f;
         work = subst (λ (x : Stage). 16 * cells (x .ks) ≤ length w) (sym e) l;
@@ -78,16 +79,16 @@ module _ {m : ℕ} {y : Stage} {c : ℕ} {w : List ℕ} {d : ℕ} {a v : List �
   pub child-stage : {A : Stage} → stageAt a v (8 * c) (8 * c + cells a) ≡ A → stageAt a (rest (8 * c) v) 0 (cells a) ≡ A
   child-stage q = rest-stage (8 * c) a v behind ∙ q
 
-  pub child-starts : {net : List ℕ} {r : ℕ} (l : Limits) → stageAt a (rest (8 * c) v) 0 (cells a) ≡ stageOf (without d (y .ks)) l
-      → Ready m (stageOf (without d (y .ks)) l) → Fits (treeOf m (stageOf (without d (y .ks)) l)) net r → Starts m a (rest (8 * c) v) net r
-  child-starts l q p f =
+  pub child-starts : {k : ℕ} {net : List ℕ} {r : ℕ} (l : Limits) → k ≡ cells a → stageAt a (rest (8 * c) v) 0 (cells a) ≡ stageOf (without d (y .ks)) l
+      → Ready m (stageOf (without d (y .ks)) l) → Fits (treeOf m (stageOf (without d (y .ks)) l)) net r → Starts m a k (rest (8 * c) v) net r
+  child-starts l i q p f =
       let h = behind in
       let o = z .left .own .own in
       let t = z .left .work in
       let u = z .small .half in
       let n = z .len in
       let k = rest-length (8 * c) v in
-      starts-as m (stageOf (without d (y .ks)) l) q (fewer-shaped d (z .left .own .shaped)) (few-without d (y .ks) (z .left .few)) (omega arith) p f
+      starts-as m (stageOf (without d (y .ks)) l) q i (fewer-shaped d (z .left .own .shaped)) (few-without d (y .ks) (z .left .few)) (omega arith) p f
 
   pub child-back : {u : List ℕ} → length u ≡ length (rest (8 * c) v) → Back (8 * c) v u (putMid (8 * c) (length v - 8 * c) v u)
   child-back {u} q = let h = behind in back (8 * c) v u (omega arith) q

@@ -212,7 +212,7 @@ module _ {m : ℕ} {ks : List ℕ} {c : ℕ} {w₀ net₀ : List ℕ} {r : ℕ} 
         pub value-fewer : 2 * width b₀ + 1 < 2 * width ks
         value-fewer = falls value-lent
 
-        pub value-starts : Starts m b₀ (rest (8 * c) w₁) net₁ (next + 1)
+        pub value-starts : Starts m b₀ n (rest (8 * c) w₁) net₁ (next + 1)
         value-starts =
             let z = room-for 0 0 in
             let e = u .put .bytes .len in
@@ -220,7 +220,7 @@ module _ {m : ℕ} {ks : List ℕ} {c : ℕ} {w₀ net₀ : List ℕ} {r : ℕ} 
             let j = h .fits .numbers in
             let q = h .fits .room in
             let y = a .cardinality in
-            child-starts value-lent (cofactorStage k x .limits) value-stage (cofactor-ready x (ready .pos) some k m ready (omega arith))
+            child-starts value-lent (cofactorStage k x .limits) (a .count) value-stage (cofactor-ready x (ready .pos) some k m ready (omega arith))
             (record { numbers = omega arith; room = omega arith })
 
         -- its stage is done

@@ -6,7 +6,7 @@ use native.Mathlib.Omega.{arith}
 use lib.ListN.{length}
 use Rattle.rules.specs.declared.Gate.{Gate}
 use Rattle.rules.specs.Bytes.{at, tabulate}
-use Rattle.rules.specs.Cell.{cells, card, present, width, moved}
+use Rattle.rules.specs.Cell.{cells, card, present, width, lowest, moved}
 use Rattle.rules.specs.Limits.{Limits}
 use Rattle.rules.specs.Tree.{Tree, size, records}
 use Rattle.rules.specs.Stage as rules
@@ -47,7 +47,7 @@ written-here {ks} {t} {w} {net} {r} {e} {e₁} {w′} {w₁} {net′} {net₁} p
     subst (λ (i : ℕ). Written ks t w net r i w₁ net₁) (sym o)
     (subst (λ (v : List ℕ). Written ks t w net r e w₁ v) (sym q) (subst (λ (v : List ℕ). Written ks t w net r e v net′) (sym p) h))
 
-module _ {m : ℕ} {ks w net : List ℕ} {r : ℕ} (s : Starts m ks w net r) where
+module _ {m : ℕ} {ks : List ℕ} {c : ℕ} {w net : List ℕ} {r : ℕ} (s : Starts m ks c w net r) where
   abbrev x : Stage
   x = frontStage ks w
 
@@ -60,8 +60,8 @@ module _ {m : ℕ} {ks w net : List ℕ} {r : ℕ} (s : Starts m ks w net r) whe
   shrunk : Shrunk x y
   shrunk = left-shrunk x (ready .pos)
 
-  pub own-room : {c : ℕ} → c ≡ cells ks → Room w ks c
-  own-room e = let q = s .work in record { shaped = s .shaped; own = e; room = omega arith }
+  pub own-room : Room w ks c
+  own-room = let q = s .work in let e = s .own in record { shaped = s .shaped; own = e; room = omega arith }
 
   module _ {l w₁ : List ℕ} (d : Turned left ks w l w₁) where
     is-left : frontStage l w₁ ≡ y
@@ -85,8 +85,21 @@ module _ {m : ℕ} {ks w net : List ℕ} {r : ℕ} (s : Starts m ks w net r) whe
     left-room : {n : ℕ} {w₂ : List ℕ} → n ≡ cells l → length w₂ ≡ length w₁ → Room w₂ l n
     left-room en e = let q = s .work in let f = d .len in let g = less in record { shaped = shaped; own = en; room = omega arith }
 
-    pub spread-room : {w₂ : List ℕ} → length w₂ ≡ length w₁ → SpreadRoom w₂ ks l
-    spread-room e = let q = s .work in let f = d .len in record { shaped = s .shaped; fewer = shaped; own = less; room = omega arith }
+    pub spread-room : {n : ℕ} {w₂ : List ℕ} → n ≡ cells l → length w₂ ≡ length w₁ → SpreadRoom w₂ ks l n c
+    spread-room en e =
+        let q = s .work in
+        let o = s .own in
+        let f = d .len in
+        let g = less in
+        record {
+          shaped = s .shaped;
+          fewer = shaped;
+          left = en;
+          all = o;
+          less = omega arith;
+          same = λ h. places ∙ shrunk .same (sym (ap cells places) ∙ sym en ∙ h ∙ o);
+          room = omega arith;
+        }
 
     -- the function of the conditions left, over all of the stage's own
     pub whole : {w₂ w₃ w₄ net′ : List ℕ} {e : ℕ} → length w₂ ≡ length w₁ → Written l (treeOf m x) w₂ net r e w₃ net′ → SpreadLaid ks l w₃ w₄ → Written ks (treeOf m x) w net r e w₄ net′
@@ -98,6 +111,10 @@ module _ {m : ℕ} {ks w net : List ℕ} {r : ℕ} (s : Starts m ks w net r) whe
               g .here ∙ ap (moved l ks) (h .function) ∙ ap (λ (k : List ℕ). moved k ks (computed k (treeOf m x))) places ∙ sym (spread m x ready);
           len = g .len ∙ h .len ∙ q ∙ d .len;
         }
+
+    -- what is asked of the lowest condition and the number of cells
+    pub narrow-room : {i n : ℕ} → i ≡ lowest l → n ≡ cells l → Shaped l × (i ≡ lowest l) × (n ≡ cells l)
+    narrow-room ei en = (shaped, ei, en)
 
     -- step 2
     module _ (narrow : width l < 2) where

@@ -25,9 +25,10 @@ pub record Fits (tree : Tree) (net : List ℕ) (r : ℕ) : Type 0 where
   pub numbers : r + size tree ≤ 65536
   pub room : 16 * (r + size tree) ≤ length net
 
--- a stage whose limits are the front of the work buffer
-pub record Starts (m : ℕ) (ks w net : List ℕ) (r : ℕ) : Type 0 where
+-- a stage of c cells whose limits are the front of the work buffer
+pub record Starts (m : ℕ) (ks : List ℕ) (c : ℕ) (w net : List ℕ) (r : ℕ) : Type 0 where
   pub shaped : Shaped ks
+  pub own : c ≡ cells ks
   pub few : (i : ℕ) → card ks i ≤ 8
   pub work : 16 * cells ks ≤ length w
   pub proper : Proper m (frontStage ks w)

@@ -26,7 +26,7 @@ fn split(w: &mut [u8], network: &mut [u8], ks: [u8; PLACES], m: u8, c: usize, r:
     let mut next = r;
     for k in 0..values {
         values::begin_value(w, network, i as u8, values, n, c, k, m - 1, next);
-        let e = stage(&mut w[rest..], network, b, m, next + 1);
+        let e = stage(&mut w[rest..], network, b, n, m, next + 1);
         moves::uncofactor(w, rest, 2 * c, n, values, k);
         next = values::end_value(network, k, next, e);
     }
@@ -51,30 +51,30 @@ fn join(
 {
     let rest = 8 * c;
     let a = stage_blocks::first_table(w, gate, m, ks, of.t, c);
-    let first = stage(&mut w[rest..], network, a, m, r);
+    let first = stage(&mut w[rest..], network, a, places::cell_count(a), m, r);
     let b = stage_blocks::second_table(w, gate, m, ks, a, of.s, c);
-    let second = stage(&mut w[rest..], network, b, m, first);
+    let second = stage(&mut w[rest..], network, b, places::cell_count(b), m, first);
     ends::close_join(w, network, gate, ks, b, c, first, second)
 }
 
-// The network of the stage over ks whose limits are at the front of the work buffer, as records from r
-// on: the next record. Its function is left at the front.
-pub fn stage(w: &mut [u8], network: &mut [u8], ks: [u8; PLACES], m: u8, r: usize) -> usize
-    requires { ⌜ Starts m ks (now w) (now network) r ⌝ }
+// The network of the stage over ks, of c cells, whose limits are at the front of the work buffer, as records
+// from r on: the next record. Its function is left at the front.
+pub fn stage(w: &mut [u8], network: &mut [u8], ks: [u8; PLACES], c: usize, m: u8, r: usize) -> usize
+    requires { ⌜ Starts m ks c (now w) (now network) r ⌝ }
     ensures { λ e. ⌜ Written ks (treeOf m (frontStage ks (now (w .entry)))) (now (w .entry)) (now (network .entry)) r e (now (w .exit)) (now (network .exit)) ⌝ }
 {
-    let c = places::cell_count(ks);
     let left = stage_drops::drop_all(w, ks, c);
-    if sets::width(left) < 2 {
-        ends::leaf(w, network, left, r);
-        ends::spread(w, left, ks);
+    let n = places::cell_count(left);
+    let i = sets::lowest(left);
+    if ends::narrow(left, i, n) {
+        ends::leaf(w, network, left, i, r);
+        ends::spread(w, left, ks, n, c);
         return r + 1;
     }
-    let n = places::cell_count(left);
     let e = match stage_choice::choose(w, left, m, n) {
         Choice::Split => split(w, network, left, m, n, r),
         Choice::Join(gate, of) => join(w, network, left, m, n, gate, of, r),
     };
-    ends::spread(w, left, ks);
+    ends::spread(w, left, ks, n, c);
     e
 }

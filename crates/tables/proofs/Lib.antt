@@ -7,3 +7,5 @@ pub mod LeastLaws
 pub mod BelowLaws
 pub mod AlongLaws
 pub mod PackLaws
+pub mod RowLaws
+pub mod MoveLaws

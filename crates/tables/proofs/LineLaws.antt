@@ -36,7 +36,7 @@ unfolding lineBest
 best-more greatest w a step v x e = rw (add-one v) (ap (λ (y : ℕ). best greatest y (at w (a + step * v))) e)
 
 -- of card steps, step v and all before it lie below the end
-line-end : (step card v : ℕ) → v < card → step * v + step ≤ step * card
+pub line-end : (step card v : ℕ) → v < card → step * v + step ≤ step * card
 line-end step card v h = omega (arith, mul-le-mul-left step h, mul-suc step v)
 
 pub spread-none : (w : List ℕ) (a step : ℕ) (f : ℕ → ℕ) → Spread w a step f 0 w

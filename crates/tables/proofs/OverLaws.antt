@@ -19,7 +19,7 @@ use Rattle.tables.proofs.PartLaws.{part-at, laid-same, laid-then}
 use Rattle.tables.proofs.LineLaws.{best-bound}
 
 -- the places from i on
-step-rest : (ks : List ℕ) (i : ℕ) → step ks i * cells (drop i ks) ≡ cells ks
+pub step-rest : (ks : List ℕ) (i : ℕ) → step ks i * cells (drop i ks) ≡ cells ks
 step-rest [] zero = refl
 step-rest [] (suc i) = refl
 step-rest (k ∷ ks) zero = one-mul (cells (k ∷ ks))

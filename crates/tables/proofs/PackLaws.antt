@@ -1,23 +1,23 @@
 -- The extremes along the lines of a table, one for each line.
 use Prim.Native.Nat.{ℕ, _+_, _-_, _*_, _/_, _%_, _≤_, _<_}
-use mathlib.Core.Path.{_≡_, refl, sym, _∙_, ap, ap₂}
+use mathlib.Core.Path.{_≡_, sym, _∙_, ap, ap₂}
 use mathlib.Core.Bool.{Bool, true}
 use mathlib.Core.List.{List}
-use native.Mathlib.Nat.{mul-comm, mul-assoc, mul-suc, mul-zero, mul-le-mul-right, mod-lt, mod-add-div, div-div-eq-div-mul}
+use native.Mathlib.Nat.{mul-comm, mul-assoc, mul-suc, mul-zero, mul-le-mul-right, mod-lt}
 use native.Mathlib.Numerals.{add-one}
 use native.Mathlib.Omega.{arith}
 use lib.ListN.{length}
 use Rattle.rules.specs.Bytes.{at, tabulate}
 use Rattle.rules.specs.Cell.{Positive, cells, card, step, singleton, without, remap, over, overTo, moved}
-use Rattle.laws.proofs.CellLaws.{moved-at, div-below, cell-lt}
+use Rattle.laws.proofs.CellLaws.{moved-at, div-below}
 use Rattle.laws.proofs.LineLaws.{cells-without, remap-without}
 use Rattle.laws.proofs.LoopLaws.{over-steps}
 use Rattle.laws.proofs.TableLaws.{at-tabulate}
 use Rattle.laws.proofs.TestLaws.{by-order}
 use Rattle.laws.proofs.UnionLaws.{digit-mod, digit-div, digit-below}
 use Rattle.tables.specs.Part.{part, Laid}
-use Rattle.tables.specs.Line.{best, lineBest, Block, Blocks, lineExtremes}
-use Rattle.tables.proofs.PartLaws.{Filled, laid-same}
+use Rattle.tables.specs.Line.{best, lineBest, Blocks, lineExtremes}
+use Rattle.tables.proofs.PartLaws.{Filled}
 use Rattle.tables.proofs.LineLaws.{line-same, line-table, best-bound}
 use Rattle.tables.proofs.OverLaws.{Counted}
 

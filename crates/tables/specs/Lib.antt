@@ -1,3 +1,4 @@
 -- What the contracts of the table functions cite.
 pub mod Part
 pub mod Line
+pub mod Move

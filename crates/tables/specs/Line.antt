@@ -5,7 +5,7 @@ use mathlib.Core.Bool.{Bool, true, false}
 use mathlib.Core.List.{List}
 use lib.ListN.{length}
 use Rattle.rules.specs.Bytes.{at, tabulate}
-use Rattle.rules.specs.Cell.{overTo}
+use Rattle.rules.specs.Cell.{cells, step, overTo}
 use Rattle.tables.specs.declared.lines.Along.{Along}
 
 -- the greater of two, or the lesser
@@ -42,6 +42,13 @@ pub record BlockSet (greatest : Bool) (w : List ℕ) (a step card s : ℕ) (w′
   pub before : (j : ℕ) → j < a → at w′ j ≡ at w j
   pub after : (j : ℕ) → a + step * card ≤ j → at w′ j ≡ at w j
 
+-- w′ is w with the first row of a block in its first n rows
+pub record Repeated (w : List ℕ) (a step card n : ℕ) (w′ : List ℕ) : Type 0 where
+  pub len : length w′ ≡ length w
+  pub rows : (o v : ℕ) → o < step → v < n → at w′ (a + o + step * v) ≡ at w (a + o)
+  pub before : (j : ℕ) → j < a → at w′ j ≡ at w j
+  pub after : (j : ℕ) → a + step * card ≤ j → at w′ j ≡ at w j
+
 -- a table of count blocks at a
 pub record Blocks (w : List ℕ) (a count step card : ℕ) : Type 0 where
   pub steps : 0 < step
@@ -57,6 +64,12 @@ alongLines greatest f step card count =
 -- the extremes along the lines of a table of count blocks at a, one for each line
 abbrev pub lineExtremes : Bool → List ℕ → ℕ → ℕ → ℕ → ℕ → List ℕ
 lineExtremes greatest w a step card count = tabulate (step * count) (λ q. lineBest greatest w (a + (q % step + step * card * (q / step))) step card)
+
+-- condition i of tables over the places ks, as a caller has counted: their cells, and the condition's step
+pub record Counts (ks : List ℕ) (i n stp : ℕ) : Type 0 where
+  pub place : i < 8
+  pub count : n ≡ cells ks
+  pub step-is : stp ≡ step ks i
 
 -- where the line through cell c of the table at a starts
 abbrev pub lineStart : ℕ → ℕ → ℕ → ℕ → ℕ

@@ -20,6 +20,16 @@ pub fn copy(w: &mut [u8], from: usize, to: usize, n: usize)
     }
 }
 
+// One grade at every cell.
+pub fn fill(w: &mut [u8], grade: u8, to: usize, n: usize)
+    requires { ⌜ to + n ≤ length (now w) ⌝ }
+    ensures { λ _. ⌜ Laid (now (w .entry)) to (tabulate n (λ _. grade)) n (now (w .exit)) ⌝ }
+{
+    for c in 0..n {
+        w[to + c] = grade;
+    }
+}
+
 // A part from the front of another buffer.
 pub fn load(w: &mut [u8], from: &[u8], to: usize, n: usize)
     requires { ⌜ (n ≤ length (now from)) × (to + n ≤ length (now w)) ⌝ }

@@ -4,4 +4,5 @@ pub mod fill;
 pub mod limits;
 pub mod lines;
 pub mod moves;
+pub mod rows;
 pub mod tests;

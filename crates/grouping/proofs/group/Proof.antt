@@ -29,7 +29,8 @@ range c = rising (c .before .before .first-pair .ensures) (c .i .given .1)
 start-sets-requires : tie.Need-start-sets-requires
 start-sets-requires c κs =
     let r = range (c .before .before) in
-    (omega arith, r .1, c .before .before .before .before .before .before .before .pre .1)
+    let p = c .before .before .before .before .before .before .before .pre in
+    (omega arith, r .1, p .0, p .2)
 
 singleton-requires : tie.Need-singleton-requires
 singleton-requires c κs = let r = range (c .before .before .before .before .before) in omega arith
@@ -40,7 +41,8 @@ singleton-requires-2 c κs = range (c .before .before .before .before .before .b
 grow-requires : tie.Need-grow-requires
 grow-requires c κs =
     let d = c .before .before .before .before .before in
-    same-space (d .start-sets .ensures .kept .len) (d .before .before .before .before .before .before .before .before .pre .0)
+    let p = d .before .before .before .before .before .before .before .before .pre in
+    (p .0, same-space (d .start-sets .ensures .kept .len) (p .1))
 
 same-length-2 : tie.Need-same-length-2
 same-length-2 c = search needs
@@ -49,7 +51,7 @@ returns-2 : tie.Need-returns-2
 returns-2 c =
     let d = c .before .before .before .before .before .before .before .before in
     let p = d .before .before .before in
-    grouped-some (p .before .before .first-pair .ensures) (p .i .given .1) (p .before .before .before .before .before .pre .0) (d .start-sets .ensures)
+    grouped-some (p .before .before .first-pair .ensures) (p .i .given .1) (p .before .before .before .before .before .pre .1) (d .start-sets .ensures)
     (c .before .before .before .before .before .singleton .ensures) (c .before .before .before .before .singleton2 .ensures) (c .before .before .grow .ensures)
 
 pub group-spec : {M : Type 1} → statement M

@@ -48,12 +48,15 @@ part-record-grade-end : tie.Need-part-record-grade-end Inv-loop μ-loop
 part-record-grade-end c = search needs
 
 slice-reshare-prefix-record-grade : tie.Need-slice-reshare-prefix-record-grade Inv-loop μ-loop
-slice-reshare-prefix-record-grade c = omega (arith, c .before .before .loop .inv .1 .kept .long, c .before .before .before .before .before .before .before .pre .room)
+slice-reshare-prefix-record-grade c =
+    let turn = c .before .before .before in
+    omega (arith, turn .loop .inv .1 .kept .long, turn .before .before .before .before .before .pre .room)
 
 slice-aggregate-record-grade : tie.Need-slice-aggregate-record-grade Inv-loop μ-loop
 slice-aggregate-record-grade c =
-    let l = c .before .before .before .loop in
-    sym (length-take-le (l .k) (l .work) (omega (arith, l .inv .1 .kept .long, c .before .before .before .before .before .before .before .before .pre .room)))
+    let turn = c .before .before .before .before in
+    let l = turn .loop in
+    sym (length-take-le (l .k) (l .work) (omega (arith, l .inv .1 .kept .long, turn .before .before .before .before .before .pre .room)))
 
 -- the values at the cell
 same : (c : tie.After-values-at Inv-loop μ-loop) → (i : ℕ) → at (c .values-at .result) i ≡ value (placesOf (c .before .before .before .before .args .shape)) (c .before .before .before .before .args .cell) i
@@ -61,11 +64,13 @@ same c i = c .values-at .ensures i ∙ ap (λ (ks : List ℕ). value ks (c .befo
 
 record-grade-requires : tie.Need-record-grade-requires Inv-loop μ-loop
 record-grade-requires c κs =
-    let a = c .before .before .before .before .before .before .before .before .args in
-    let l = c .before .before .before .loop in
+    let turn = c .before .before .before .before in
+    let start = turn .before .before .before .before .before in
+    let a = start .args in
+    let l = turn .loop in
     rw (part-record (a .network .now) (l .k))
-    (readable (a .shape) (a .network .now) (a .work .now) (c .before .before .before .before .before .before .before .before .pre) (a .cell) (l .k) (c .before .before .before .before .values-at .result) (take (l .k) (l .work)) (omega arith)
-    (same (c .before .before .before .before)) (length-take-le (l .k) (l .work) (omega (arith, l .inv .1 .kept .long, c .before .before .before .before .before .before .before .before .pre .room))))
+    (readable (a .shape) (a .network .now) (a .work .now) (start .pre) (a .cell) (l .k) (turn .before .values-at .result) (take (l .k) (l .work)) (omega arith)
+    (same (turn .before)) (length-take-le (l .k) (l .work) (omega (arith, l .inv .1 .kept .long, start .pre .room))))
 
 slice-write-work : tie.Need-slice-write-work Inv-loop μ-loop
 slice-write-work c = search needs
@@ -78,11 +83,14 @@ loop-less c = omega arith
 
 loop-again : tie.Need-loop-again Inv-loop μ-loop
 loop-again c =
-    let a = c .before .before .before .before .before .before .before .before .before .args in
-    let l = c .before .before .before .before .loop in (
+    let turn = c .before .before .before .before .before in
+    let start = turn .before .before .before .before .before in
+    let a = start .args in
+    let l = turn .loop in
+    let values = turn .before .values-at .result in (
       search needs,
-      run-more (c .before .before .before .before .before .values-at .result) (a .network .now) (a .work .now) (l .k) (l .work) (l .inv .1) (omega arith) (c .before .before .before .before .before .before .before .before .before .pre .room) (c .record-grade .result)
-          (c .record-grade .ensures ∙ ap (byteGrade (at (c .before .before .before .before .before .values-at .result)) (take (l .k) (l .work))) (part-record (a .network .now) (l .k))),
+      run-more values (a .network .now) (a .work .now) (l .k) (l .work) (l .inv .1) (omega arith) (start .pre .room) (c .record-grade .result)
+          (c .record-grade .ensures ∙ ap (byteGrade (at values) (take (l .k) (l .work))) (part-record (a .network .now) (l .k))),
     )
 
 same-length : tie.Need-same-length Inv-loop μ-loop

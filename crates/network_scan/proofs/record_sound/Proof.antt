@@ -1,88 +1,139 @@
 -- `network_scan::record_sound` meets its contract.
 use mathlib.Core.Path.{refl, sym, _∙_}
-use mathlib.Core.Bool.{true, false}
+use mathlib.Core.Bool.{false}
 use native.Mathlib.Omega.{arith}
-use borrow.Author.Tests.{lt-ltb, le-ltb, eq-eqb, ne-eqb, not-true, not-false}
-use Rattle.network_scan.proofs.SoundLaws.{record-by}
+use borrow.Author.Tests.{le-ltb}
 use borrow.Author.Needs.{needs}
+use Rattle.rules.specs.Bytes.{at}
+use Rattle.network_scan.proofs.SoundLaws.{record-by, row-passed, row-failed}
+use Rattle.network_scan.proofs.ZeroLaws.{table}
 use Rattle.network_scan.proofs.record_sound.Statement.{statement}
 use Rattle.network_scan.proofs.record_sound.Tie as tie
 
-shared-slice-read-kind : tie.Need-shared-slice-read-kind
-shared-slice-read-kind c = search needs
+shared-slice-read-match : tie.Need-shared-slice-read-match
+shared-slice-read-match c = search needs
 
-cast-kind : tie.Need-cast-kind
-cast-kind c = omega (arith, c .shared-slice-known2 .given 0)
+array-copy-out-row-sound : tie.Need-array-copy-out-row-sound
+array-copy-out-row-sound c = search needs
 
-returns : tie.Need-returns
-returns c =
-    let a = c .before .before .before .args in
-    sym (record-by (a .ks) (a .m) (a .k) (a .r .now) false _ _ _ (le-ltb _ _ (c .if1 .taken)) refl refl refl)
-
-bytes-sound-requires : tie.Need-bytes-sound-requires
-bytes-sound-requires c κs = search needs
-
-returns-2 : tie.Need-returns-2
-returns-2 c =
-    let a = c .before .before .before .before .before .args in
-    sym
-    (record-by (a .ks) (a .m) (a .k) (a .r .now) true false _ _ (lt-ltb _ _ (c .before .before .if1 .left))
-    (sym (c .before .bytes-sound .ensures) ∙ not-true (c .before .bytes-sound .result) (c .if2 .taken)) refl refl)
-
-cast-if3 : tie.Need-cast-if3
-cast-if3 c = search needs
+row-sound-requires : tie.Need-row-sound-requires
+row-sound-requires c κs = search needs
 
 shared-slice-read-result : tie.Need-shared-slice-read-result
 shared-slice-read-result c = search needs
 
-returns-3 : tie.Need-returns-3
-returns-3 c =
-    let a = c .before .before .before .before .before .before .before .args in
-    sym
-    (record-by (a .ks) (a .m) (a .k) (a .r .now) true true true _ (lt-ltb _ _ (c .before .before .before .before .if1 .left))
-    (sym (c .before .before .before .bytes-sound .ensures) ∙ not-false (c .before .before .before .bytes-sound .result) (c .before .before .if2 .left)) (eq-eqb _ _ (c .before .if3 .taken)) refl)
+array-copy-out-row-sound-2 : tie.Need-array-copy-out-row-sound-2
+array-copy-out-row-sound-2 c = search needs
 
-cast-if4 : tie.Need-cast-if4
-cast-if4 c = search needs
+row-sound-requires-2 : tie.Need-row-sound-requires-2
+row-sound-requires-2 c κs = search needs
 
 literal-sound-requires : tie.Need-literal-sound-requires
 literal-sound-requires c κs = search needs
 
-returns-4 : tie.Need-returns-4
-returns-4 c =
-    let a = c .before .before .before .before .before .before .before .before .args in
-    c .literal-sound .ensures
-    ∙ sym
-    (record-by (a .ks) (a .m) (a .k) (a .r .now) true true false true (lt-ltb _ _ (c .before .before .before .before .before .if1 .left))
-    (sym (c .before .before .before .before .bytes-sound .ensures) ∙ not-false (c .before .before .before .before .bytes-sound .result) (c .before .before .before .if2 .left))
-    (ne-eqb _ _ (c .before .before .if3 .left)) (eq-eqb _ _ (c .before .if4 .taken)))
+array-copy-out-row-sound-3 : tie.Need-array-copy-out-row-sound-3
+array-copy-out-row-sound-3 c = search needs
+
+row-sound-requires-3 : tie.Need-row-sound-requires-3
+row-sound-requires-3 c κs = search needs
 
 gate-sound-requires : tie.Need-gate-sound-requires
 gate-sound-requires c κs = search needs
 
+array-copy-out-row-sound-4 : tie.Need-array-copy-out-row-sound-4
+array-copy-out-row-sound-4 c = search needs
+
+row-sound-requires-4 : tie.Need-row-sound-requires-4
+row-sound-requires-4 c κs = search needs
+
+gate-sound-requires-2 : tie.Need-gate-sound-requires-2
+gate-sound-requires-2 c κs = search needs
+
+returns : tie.Need-returns
+unfolding table
+returns c =
+    let row = c .before .before in
+    let a = row .before .before .before .before .before .args in
+    row-passed (a .ks) (a .m) (a .k) (a .r .now) 0 _ refl (row .before .before .match .keys1) (row .row-sound .ensures) (c .before .if1 .taken)
+
+returns-2 : tie.Need-returns-2
+unfolding table
+returns-2 c =
+    let row = c .before in
+    let a = row .before .before .before .before .before .args in
+    row-failed (a .ks) (a .m) (a .k) (a .r .now) 0 _ refl (row .before .before .match .keys1) (row .row-sound .ensures) (c .if1 .left)
+
+returns-3 : tie.Need-returns-3
+unfolding table
+returns-3 c =
+    let row = c .before .before in
+    let a = row .before .before .before .before .before .args in
+    c .literal-sound .ensures ∙ row-passed (a .ks) (a .m) (a .k) (a .r .now) 1 _ refl (row .before .before .match .keys2) (row .row-sound2 .ensures) (c .before .if2 .taken)
+
+returns-4 : tie.Need-returns-4
+unfolding table
+returns-4 c =
+    let row = c .before in
+    let a = row .before .before .before .before .before .args in
+    row-failed (a .ks) (a .m) (a .k) (a .r .now) 1 _ refl (row .before .before .match .keys2) (row .row-sound2 .ensures) (c .if2 .left)
+
 returns-5 : tie.Need-returns-5
+unfolding table
 returns-5 c =
-    let a = c .before .before .before .before .before .before .before .before .args in
-    c .gate-sound .ensures
-    ∙ sym
-    (record-by (a .ks) (a .m) (a .k) (a .r .now) true true false false (lt-ltb _ _ (c .before .before .before .before .before .if1 .left))
-    (sym (c .before .before .before .before .bytes-sound .ensures) ∙ not-false (c .before .before .before .before .bytes-sound .result) (c .before .before .before .if2 .left))
-    (ne-eqb _ _ (c .before .before .if3 .left)) (ne-eqb _ _ (c .before .if4 .left)))
+    let row = c .before .before in
+    let a = row .before .before .before .before .before .args in
+    c .gate-sound .ensures ∙ row-passed (a .ks) (a .m) (a .k) (a .r .now) 2 _ refl (row .before .before .match .keys3) (row .row-sound3 .ensures) (c .before .if3 .taken)
+
+returns-6 : tie.Need-returns-6
+unfolding table
+returns-6 c =
+    let row = c .before in
+    let a = row .before .before .before .before .before .args in
+    row-failed (a .ks) (a .m) (a .k) (a .r .now) 2 _ refl (row .before .before .match .keys3) (row .row-sound3 .ensures) (c .if3 .left)
+
+returns-7 : tie.Need-returns-7
+unfolding table
+returns-7 c =
+    let row = c .before .before in
+    let a = row .before .before .before .before .before .args in
+    c .gate-sound2 .ensures ∙ row-passed (a .ks) (a .m) (a .k) (a .r .now) 3 _ refl (row .before .before .match .keys4) (row .row-sound4 .ensures) (c .before .if4 .taken)
+
+returns-8 : tie.Need-returns-8
+unfolding table
+returns-8 c =
+    let row = c .before in
+    let a = row .before .before .before .before .before .args in
+    row-failed (a .ks) (a .m) (a .k) (a .r .now) 3 _ refl (row .before .before .match .keys4) (row .row-sound4 .ensures) (c .if4 .left)
+
+returns-9 : tie.Need-returns-9
+returns-9 c =
+    let a = c .before .before .before .args in
+    let rest = c .match .rest in
+    sym (record-by (a .ks) (a .m) (a .k) (a .r .now) false _ _ _ (le-ltb (at (a .r .now) 0) 4 (omega (arith, rest))) refl refl refl)
 
 pub record-sound-spec : {M : Type 1} → statement M
 record-sound-spec =
     tie.close
     (tie.spec
-    shared-slice-read-kind
-    cast-kind
-    returns
-    bytes-sound-requires
-    returns-2
-    cast-if3
+    shared-slice-read-match
+    array-copy-out-row-sound
+    row-sound-requires
     shared-slice-read-result
-    returns-3
-    cast-if4
+    array-copy-out-row-sound-2
+    row-sound-requires-2
     literal-sound-requires
-    returns-4
+    array-copy-out-row-sound-3
+    row-sound-requires-3
     gate-sound-requires
-    returns-5)
+    array-copy-out-row-sound-4
+    row-sound-requires-4
+    gate-sound-requires-2
+    returns
+    returns-2
+    returns-3
+    returns-4
+    returns-5
+    returns-6
+    returns-7
+    returns-8
+    returns-9)

@@ -1,6 +1,6 @@
 -- `stage_drops::drop_condition` meets its contract.
-use Prim.Native.Nat.{_*_, _/_, _≤_}
-use mathlib.Core.Path.{_≡_, refl}
+use Prim.Native.Nat.{_*_, _/_}
+use mathlib.Core.Path.{refl}
 use native.Mathlib.Omega.{arith}
 use lib.ListN.{getD}
 use borrow.Author.Needs.{needs}

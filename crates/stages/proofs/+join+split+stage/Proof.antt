@@ -1,10 +1,11 @@
 -- `stages::+join+split+stage` meets its contract.
-use mathlib.Core.Path.{_≡_, refl, ap, _∙_}
+use mathlib.Core.Path.{_≡_, refl, sym, ap, _∙_}
 use mathlib.Core.List.{List}
 use mathlib.Core.Logic.{⊎-elim}
 use Prim.Native.Nat.{ℕ, _+_, _-_, _*_, _≤_, _<_}
 use native.Mathlib.Omega.{arith}
 use lib.ListN.{length, getD}
+use borrow.Author.Tests.{ltb-true, ltb-false}
 use borrow.Author.Needs.{needs}
 use Rattle.rules.specs.Cell.{card, width, singleton, without}
 use Rattle.rules.specs.Stage.{treeOf}
@@ -13,7 +14,7 @@ use Rattle.stage_drops.specs.Working.{frontStage}
 use Rattle.laws.proofs.LoopLaws.{card-read}
 use Rattle.stages.specs.Staging.{Written, Splits}
 use Rattle.stages.proofs.SplitStageLaws.{Axis, Turn, turn-none, lowest-below, all-cells, value-room, value-starts, value-fewer, value-back, gate-room, value-spread, turn-more, copy-room, split-whole}
-use Rattle.stages.proofs.StageEndLaws.{written-here, own-room, fewer, spread-room, whole, leaf-room, leaf-whole, choose-room, splits, split-done, joins, join-done}
+use Rattle.stages.proofs.StageEndLaws.{written-here, own-room, fewer, spread-room, narrow-room, whole, leaf-room, leaf-whole, choose-room, splits, split-done, joins, join-done}
 use Rattle.stages.proofs.BlockStageLaws.{first-room, first-starts, first-fewer, first-back, second-room, second-starts, second-fewer, second-back, close-room, joined-whole}
 use borrow.Fn.Kinds.{In}
 use borrow.Fn.PlainCycle.{Measures, is, falls, and}
@@ -29,13 +30,13 @@ use Rattle.stages.proofs.+join+split+stage.Lts-stage as stage-lts
 use Rattle.places.proofs.cell_count.Reads as cell-count-reads
 use Rattle.places.proofs.sets.lowest.Reads as lowest-reads
 use Rattle.places.proofs.sets.singleton.Reads as singleton-reads
-use Rattle.places.proofs.sets.width.Reads as width-reads
 use Rattle.places.proofs.sets.without.Reads as without-reads
 use Rattle.stage_drops.proofs.drop_all.Reads as drop-all-reads
 use Rattle.stage_blocks.proofs.first_table.Reads as first-table-reads
 use Rattle.stage_blocks.proofs.second_table.Reads as second-table-reads
 use Rattle.stage_choice.proofs.choose.Reads as choose-reads
 use Rattle.stage_steps.proofs.ends.close_join.Reads as close-join-reads
+use Rattle.stage_steps.proofs.ends.narrow.Reads as narrow-reads
 use Rattle.stage_steps.proofs.ends.leaf.Reads as leaf-reads
 use Rattle.stage_steps.proofs.ends.spread.Reads as spread-reads
 use Rattle.stage_steps.proofs.values.begin_value.Reads as begin-value-reads
@@ -74,7 +75,7 @@ stage-below t = and 2 stage-kinds.ps (falls 2 stage-kinds.ps _<_ μ-stage t) sta
 
 -- what `join` asks and learns of the functions that it calls
 abbrev join-claims : ℕ → join-lts.Claims
-join-claims t = (first-table-reads.Asked, first-table-reads.Learnt, stage-below t, stage.Post, second-table-reads.Asked, second-table-reads.Learnt, close-join-reads.Asked, close-join-reads.Learnt)
+join-claims t = (first-table-reads.Asked, first-table-reads.Learnt, cell-count-reads.Asked, cell-count-reads.Learnt, stage-below t, stage.Post, second-table-reads.Asked, second-table-reads.Learnt, close-join-reads.Asked, close-join-reads.Learnt)
 
 -- what `split` asks and learns of the functions that it calls
 abbrev split-claims : ℕ → split-lts.Claims
@@ -82,7 +83,7 @@ split-claims t = (lowest-reads.Asked, lowest-reads.Learnt, singleton-reads.Asked
 
 -- what `stage` asks and learns of the functions that it calls
 abbrev stage-claims : ℕ → stage-lts.Claims
-stage-claims t = (cell-count-reads.Asked, cell-count-reads.Learnt, drop-all-reads.Asked, drop-all-reads.Learnt, width-reads.Asked, width-reads.Learnt, leaf-reads.Asked, leaf-reads.Learnt, spread-reads.Asked, spread-reads.Learnt, choose-reads.Asked, choose-reads.Learnt, split-below t, split.Post, join-below t, join.Post)
+stage-claims t = (drop-all-reads.Asked, drop-all-reads.Learnt, cell-count-reads.Asked, cell-count-reads.Learnt, lowest-reads.Asked, lowest-reads.Learnt, narrow-reads.Asked, narrow-reads.Learnt, leaf-reads.Asked, leaf-reads.Learnt, spread-reads.Asked, spread-reads.Learnt, choose-reads.Asked, choose-reads.Learnt, split-below t, split.Post, join-below t, join.Post)
 
 join-mul-rest : (t : ℕ) → join-lts.Need-mul-rest (join-claims t) (join-at t) join.Post
 join-mul-rest t c =
@@ -111,66 +112,85 @@ join-part-stage-end t c =
     let e = c .before .before .first-table .ensures .len in
     search needs
 
+join-cell-count-requires : (t : ℕ) → join-lts.Need-cell-count-requires (join-claims t) (join-at t) join.Post
+join-cell-count-requires t c κs = tt
+
 join-stage-requires : (t : ℕ) → join-lts.Need-stage-requires (join-claims t) (join-at t) join.Post
 join-stage-requires t c κs =
-    let j = c .before .before .before .before .before .before .before .before .pre .1 .1 in
-    let f = c .before .before .before .before .first-table .ensures in
-    (let e = c .before .before .before .before .before .before .before .before .pre .0 in let h = first-fewer j f in omega arith, first-starts j f)
+    let d = c .before .before .before .before .before in
+    let b = d .before .before .before .before in
+    let j = b .pre .1 .1 in
+    let f = d .first-table .ensures in
+    (let e = b .pre .0 in let h = first-fewer j f in omega arith, first-starts j f (c .cell-count .ensures))
 
 join-second-table-requires : (t : ℕ) → join-lts.Need-second-table-requires (join-claims t) (join-at t) join.Post
 join-second-table-requires t c κs =
-    let j = c .before .before .before .before .before .before .before .before .before .before .before .before .before .before .pre .1 .1 in
-    let f = c .before .before .before .before .before .before .before .before .before .before .first-table .ensures in
-    second-room j f (c .before .before .before .before .before .stage .ensures) (first-back j f (c .before .before .before .before .before .stage .ensures))
+    let d = c .before .before .before .before .before .before .before .before .before .before .before in
+    let j = d .before .before .before .before .pre .1 .1 in
+    let f = d .first-table .ensures in
+    let x = c .before .before .before .before .before .stage .ensures in
+    second-room j f x (first-back j f x)
 
 join-sub-stage-2 : (t : ℕ) → join-lts.Need-sub-stage-2 (join-claims t) (join-at t) join.Post
 join-sub-stage-2 t c =
-    let h = c .before .before .before .before .before .before .before .before .before .before .before .before .before .before .before .before .before .pre .1 .1 .left .work in
-    let k = first-back (c .before .before .before .before .before .before .before .before .before .before .before .before .before .before .before .before .before .pre .1 .1) (c .before .before .before .before .before .before .before .before .before .before .before .before .before .first-table .ensures) (c .before .before .before .before .before .before .before .before .stage .ensures) .len in
-    let e = c .before .before .before .before .before .before .before .before .before .before .before .before .before .first-table .ensures .len in
+    let d = c .before .before .before .before .before .before .before .before .before .before .before .before .before .before in
+    let b = d .before .before .before .before in
+    let h = b .pre .1 .1 .left .work in
+    let k = first-back (b .pre .1 .1) (d .first-table .ensures) (c .before .before .before .before .before .before .before .before .stage .ensures) .len in
+    let e = d .first-table .ensures .len in
     let i = c .before .before .second-table .ensures .len in
     omega arith
 
 join-part-stage-start-2 : (t : ℕ) → join-lts.Need-part-stage-start-2 (join-claims t) (join-at t) join.Post
 join-part-stage-start-2 t c =
-    let h = c .before .before .before .before .before .before .before .before .before .before .before .before .before .before .before .before .before .pre .1 .1 .left .work in
-    let k = first-back (c .before .before .before .before .before .before .before .before .before .before .before .before .before .before .before .before .before .pre .1 .1) (c .before .before .before .before .before .before .before .before .before .before .before .before .before .first-table .ensures) (c .before .before .before .before .before .before .before .before .stage .ensures) .len in
-    let e = c .before .before .before .before .before .before .before .before .before .before .before .before .before .first-table .ensures .len in
+    let d = c .before .before .before .before .before .before .before .before .before .before .before .before .before .before in
+    let b = d .before .before .before .before in
+    let h = b .pre .1 .1 .left .work in
+    let k = first-back (b .pre .1 .1) (d .first-table .ensures) (c .before .before .before .before .before .before .before .before .stage .ensures) .len in
+    let e = d .first-table .ensures .len in
     let i = c .before .before .second-table .ensures .len in
     search needs
 
 join-part-stage-end-2 : (t : ℕ) → join-lts.Need-part-stage-end-2 (join-claims t) (join-at t) join.Post
 join-part-stage-end-2 t c =
-    let h = c .before .before .before .before .before .before .before .before .before .before .before .before .before .before .before .before .before .pre .1 .1 .left .work in
-    let k = first-back (c .before .before .before .before .before .before .before .before .before .before .before .before .before .before .before .before .before .pre .1 .1) (c .before .before .before .before .before .before .before .before .before .before .before .before .before .first-table .ensures) (c .before .before .before .before .before .before .before .before .stage .ensures) .len in
-    let e = c .before .before .before .before .before .before .before .before .before .before .before .before .before .first-table .ensures .len in
+    let d = c .before .before .before .before .before .before .before .before .before .before .before .before .before .before in
+    let b = d .before .before .before .before in
+    let h = b .pre .1 .1 .left .work in
+    let k = first-back (b .pre .1 .1) (d .first-table .ensures) (c .before .before .before .before .before .before .before .before .stage .ensures) .len in
+    let e = d .first-table .ensures .len in
     let i = c .before .before .second-table .ensures .len in
     search needs
 
+join-cell-count-requires-2 : (t : ℕ) → join-lts.Need-cell-count-requires-2 (join-claims t) (join-at t) join.Post
+join-cell-count-requires-2 t c κs = tt
+
 join-stage-requires-2 : (t : ℕ) → join-lts.Need-stage-requires-2 (join-claims t) (join-at t) join.Post
 join-stage-requires-2 t c κs =
-    let j = c .before .before .before .before .before .before .before .before .before .before .before .before .before .before .before .before .before .before .before .pre .1 .1 in
-    let f = c .before .before .before .before .before .before .before .before .before .before .before .before .before .before .before .first-table .ensures in
-    let x = c .before .before .before .before .before .before .before .before .before .before .stage .ensures in
+    let d = c .before .before .before .before .before .before .before .before .before .before .before .before .before .before .before .before .before in
+    let b = d .before .before .before .before in
+    let j = b .pre .1 .1 in
+    let f = d .first-table .ensures in
+    let x = c .before .before .before .before .before .before .before .before .before .before .before .stage .ensures in
     let k = first-back j f x in
-    let z = c .before .before .before .before .second-table .ensures in
-    (let e = c .before .before .before .before .before .before .before .before .before .before .before .before .before .before .before .before .before .before .before .pre .0 in let h = second-fewer j f x k z in omega arith, second-starts j f x k z)
+    let z = c .before .before .before .before .before .second-table .ensures in
+    (let e = b .pre .0 in let h = second-fewer j f x k z in omega arith, second-starts j f x k z (c .cell-count2 .ensures))
 
 join-close-join-requires : (t : ℕ) → join-lts.Need-close-join-requires (join-claims t) (join-at t) join.Post
 join-close-join-requires t c κs =
-    let j = c .before .before .before .before .before .before .before .before .before .before .before .before .before .before .before .before .before .before .before .before .before .before .before .before .before .before .pre .1 .1 in
-    let f = c .before .before .before .before .before .before .before .before .before .before .before .before .before .before .before .before .before .before .before .before .before .before .first-table .ensures in
-    let x = c .before .before .before .before .before .before .before .before .before .before .before .before .before .before .before .before .before .stage .ensures in
+    let d = c .before .before .before .before .before .before .before .before .before .before .before .before .before .before .before .before .before .before .before .before .before .before .before .before in
+    let j = d .before .before .before .before .pre .1 .1 in
+    let f = d .first-table .ensures in
+    let x = c .before .before .before .before .before .before .before .before .before .before .before .before .before .before .before .before .before .before .stage .ensures in
     let k = first-back j f x in
-    let z = c .before .before .before .before .before .before .before .before .before .before .before .second-table .ensures in
+    let z = c .before .before .before .before .before .before .before .before .before .before .before .before .second-table .ensures in
     let x′ = c .before .before .before .before .before .before .stage2 .ensures in
     close-room j f x k z x′ (second-back j f x k z x′)
 
 join-returns : (t : ℕ) → join-lts.Need-returns (join-claims t) (join-at t) join.Post
 join-returns t c =
-    let f = c .before .before .before .before .before .before .before .before .before .before .before .before .before .before .before .before .before .before .before .before .before .before .before .before .before .before .before .first-table .ensures in
-    let x = c .before .before .before .before .before .before .before .before .before .before .before .before .before .before .before .before .before .before .before .before .before .before .stage .ensures in
-    let z = c .before .before .before .before .before .before .before .before .before .before .before .before .before .before .before .before .second-table .ensures in
+    let f = c .before .before .before .before .before .before .before .before .before .before .before .before .before .before .before .before .before .before .before .before .before .before .before .before .before .before .before .before .before .first-table .ensures in
+    let x = c .before .before .before .before .before .before .before .before .before .before .before .before .before .before .before .before .before .before .before .before .before .before .before .stage .ensures in
+    let z = c .before .before .before .before .before .before .before .before .before .before .before .before .before .before .before .before .before .second-table .ensures in
     let x′ = c .before .before .before .before .before .before .before .before .before .before .before .stage2 .ensures in
     record {
       whole = λ l j.
@@ -179,10 +199,10 @@ join-returns t c =
     }
 
 join-same-length : (t : ℕ) → join-lts.Need-same-length (join-claims t) (join-at t) join.Post
-join-same-length t c = join-returns t c .whole _ (c .before .before .before .before .before .before .before .before .before .before .before .before .before .before .before .before .before .before .before .before .before .before .before .before .before .before .before .before .before .before .before .pre .1 .1) .len
+join-same-length t c = join-returns t c .whole _ (c .before .before .before .before .before .before .before .before .before .before .before .before .before .before .before .before .before .before .before .before .before .before .before .before .before .before .before .before .before .before .before .before .before .pre .1 .1) .len
 
 join-same-length-2 : (t : ℕ) → join-lts.Need-same-length-2 (join-claims t) (join-at t) join.Post
-join-same-length-2 t c = join-returns t c .whole _ (c .before .before .before .before .before .before .before .before .before .before .before .before .before .before .before .before .before .before .before .before .before .before .before .before .before .before .before .before .before .before .before .pre .1 .1) .put .bytes .len
+join-same-length-2 t c = join-returns t c .whole _ (c .before .before .before .before .before .before .before .before .before .before .before .before .before .before .before .before .before .before .before .before .before .before .before .before .before .before .before .before .before .before .before .before .before .pre .1 .1) .put .bytes .len
 
 abbrev split-Inv-loop : split-lts.InvT-loop
 split-Inv-loop w₀ network₀ m c r i b n values rest next₀ k₀ w network next k =
@@ -364,38 +384,43 @@ split-same-length t c = split-returns t c .len
 split-same-length-2 : (t : ℕ) → split-lts.Need-same-length-2 (split-claims t) (split-at t) split.Post split-Inv-loop split-μ-loop
 split-same-length-2 t c = split-returns t c .put .bytes .len
 
+stage-drop-all-requires : (t : ℕ) → stage-lts.Need-drop-all-requires (stage-claims t) (stage-at t) stage.Post
+stage-drop-all-requires t c κs = own-room (c .before .before .before .pre .1)
+
 stage-cell-count-requires : (t : ℕ) → stage-lts.Need-cell-count-requires (stage-claims t) (stage-at t) stage.Post
 stage-cell-count-requires t c κs = tt
 
-stage-drop-all-requires : (t : ℕ) → stage-lts.Need-drop-all-requires (stage-claims t) (stage-at t) stage.Post
-stage-drop-all-requires t c κs = own-room (c .before .before .before .before .pre .1) (c .before .cell-count .ensures)
+stage-lowest-requires : (t : ℕ) → stage-lts.Need-lowest-requires (stage-claims t) (stage-at t) stage.Post
+stage-lowest-requires t c κs = tt
 
-stage-width-requires : (t : ℕ) → stage-lts.Need-width-requires (stage-claims t) (stage-at t) stage.Post
-stage-width-requires t c κs = tt
+stage-narrow-requires : (t : ℕ) → stage-lts.Need-narrow-requires (stage-claims t) (stage-at t) stage.Post
+stage-narrow-requires t c κs =
+    let d = c .before .before .before .before in
+    narrow-room (d .before .before .before .before .pre .1) (d .drop-all .ensures) (c .lowest .ensures) (c .before .cell-count .ensures)
 
 stage-leaf-requires : (t : ℕ) → stage-lts.Need-leaf-requires (stage-claims t) (stage-at t) stage.Post
 stage-leaf-requires t c κs =
-    let d = c .before .before .before .before .before .before in
-    let n : width (d .drop-all .result) < 2 = search needs in
-    leaf-room (d .before .before .before .before .before .pre .1) (d .drop-all .ensures) n
+    let d = c .before .before .before .before .before .before .before .before in
+    let w = c .before .before .before .narrow .ensures in
+    (leaf-room (d .before .before .before .before .pre .1) (d .drop-all .ensures) (ltb-true _ 2 (sym w ∙ c .before .before .if1 .taken)), c .before .before .before .before .lowest .ensures)
 
 stage-spread-requires : (t : ℕ) → stage-lts.Need-spread-requires (stage-claims t) (stage-at t) stage.Post
 stage-spread-requires t c κs =
-    let d = c .before .before .before .before .before .before .before .before .before .before in
-    spread-room (d .before .before .before .before .before .pre .1) (d .drop-all .ensures) refl
+    let d = c .before .before .before .before .before .before .before .before .before .before .before .before in
+    spread-room (d .before .before .before .before .pre .1) (d .drop-all .ensures) (c .before .before .before .before .before .before .before .before .before .cell-count .ensures) refl
 
 stage-add-result : (t : ℕ) → stage-lts.Need-add-result (stage-claims t) (stage-at t) stage.Post
 stage-add-result t c =
-    let b = c .before .before .before .before .before .before .before .before .before .before .before .before .before .before .before .before .before .before in
+    let b = c .before .before .before .before .before .before .before .before .before .before .before .before .before .before .before .before .before .before .before in
     let s = b .pre .1 .fits .numbers in
     let p = size-pos (treeOf (b .args .m) (frontStage (b .args .ks) (b .args .w .now))) in
     search needs
 
 stage-returns : (t : ℕ) → stage-lts.Need-returns (stage-claims t) (stage-at t) stage.Post
 stage-returns t c =
-    let d = c .before .before .before .before .before .before .before .before .before .before .before .before .before in
-    let n : width (d .drop-all .result) < 2 = search needs in
-    leaf-whole (d .before .before .before .before .before .pre .1) (d .drop-all .ensures) n (c .before .before .before .before .before .before .leaf .ensures) (c .before .before .spread .ensures)
+    let d = c .before .before .before .before .before .before .before .before .before .before .before .before .before .before .before in
+    let w = c .before .before .before .before .before .before .before .before .before .before .narrow .ensures in
+    leaf-whole (d .before .before .before .before .pre .1) (d .drop-all .ensures) (ltb-true _ 2 (sym w ∙ c .before .before .before .before .before .before .before .before .before .if1 .taken)) (c .before .before .before .before .before .before .leaf .ensures) (c .before .before .spread .ensures)
 
 stage-same-length : (t : ℕ) → stage-lts.Need-same-length (stage-claims t) (stage-at t) stage.Post
 stage-same-length t c = stage-returns t c .len
@@ -403,59 +428,60 @@ stage-same-length t c = stage-returns t c .len
 stage-same-length-2 : (t : ℕ) → stage-lts.Need-same-length-2 (stage-claims t) (stage-at t) stage.Post
 stage-same-length-2 t c = stage-returns t c .put .bytes .len
 
-stage-cell-count-requires-2 : (t : ℕ) → stage-lts.Need-cell-count-requires-2 (stage-claims t) (stage-at t) stage.Post
-stage-cell-count-requires-2 t c κs = tt
-
 stage-choose-requires : (t : ℕ) → stage-lts.Need-choose-requires (stage-claims t) (stage-at t) stage.Post
 stage-choose-requires t c κs =
-    let d = c .before .before .before .before .before .before in
-    choose-room (d .before .before .before .before .before .pre .1) (d .drop-all .ensures) (c .before .cell-count2 .ensures)
+    let d = c .before .before .before .before .before .before .before in
+    choose-room (d .before .before .before .before .pre .1) (d .drop-all .ensures) (c .before .before .before .before .cell-count .ensures)
 
 stage-enum-told : (t : ℕ) → stage-lts.Need-enum-told (stage-claims t) (stage-at t) stage.Post
 stage-enum-told t c = search needs
 
+-- two or more conditions are left
+stage-wide : (t : ℕ) (c : stage-lts.Else1 (stage-claims t) (stage-at t) stage.Post) → 2 ≤ width (c .before .before .before .before .before .before .drop-all .result)
+stage-wide t c = ltb-false _ 2 (sym (c .before .narrow .ensures) ∙ c .if1 .left)
+
 stage-split-requires : (t : ℕ) → stage-lts.Need-split-requires (stage-claims t) (stage-at t) stage.Post
 stage-split-requires t c κs =
-    let d = c .before .before .before .before .before .before .before .before .before .before .before .before .before in
-    let b = d .before .before .before .before .before in
-    let n : 2 ≤ width (d .drop-all .result) = search needs in
-    (let e = b .pre .0 in let f = fewer (b .pre .1) (d .drop-all .ensures) in omega arith, splits (b .pre .1) (d .drop-all .ensures) (c .before .before .before .before .before .before .before .before .cell-count2 .ensures) n (c .before .before .before .before .before .before .choose .ensures) (c .before .before .enum-told .given .1))
+    let o = c .before .before .before .before .before .before .before .before in
+    let d = o .before .before .before .before .before .before in
+    let b = d .before .before .before .before in
+    (let e = b .pre .0 in let f = fewer (b .pre .1) (d .drop-all .ensures) in omega arith, splits (b .pre .1) (d .drop-all .ensures) (o .before .before .before .cell-count .ensures) (stage-wide t o) (c .before .before .before .before .before .before .choose .ensures) (c .before .before .enum-told .given .1))
 
 stage-enum-known-gate : (t : ℕ) → stage-lts.Need-enum-known-gate (stage-claims t) (stage-at t) stage.Post
 stage-enum-known-gate t c = search needs
 
 stage-join-requires : (t : ℕ) → stage-lts.Need-join-requires (stage-claims t) (stage-at t) stage.Post
 stage-join-requires t c κs =
-    let d = c .before .before .before .before .before .before .before .before .before .before .before .before .before .before in
-    let b = d .before .before .before .before .before in
-    let n : 2 ≤ width (d .drop-all .result) = let e = c .before .before .before .before .before .before .before .before .before .before .before .width .ensures in let h = c .before .before .before .before .before .before .before .before .before .before .if1 .left in omega arith in
-    (let e = b .pre .0 in let f = fewer (b .pre .1) (d .drop-all .ensures) in omega arith, (_, joins (b .pre .1) (d .drop-all .ensures) (c .before .before .before .before .before .before .before .before .before .cell-count2 .ensures) n (c .before .before .before .before .before .before .before .choose .ensures) (c .before .before .before .gate .given .1)))
+    let o = c .before .before .before .before .before .before .before .before .before in
+    let d = o .before .before .before .before .before .before in
+    let b = d .before .before .before .before in
+    (let e = b .pre .0 in let f = fewer (b .pre .1) (d .drop-all .ensures) in omega arith, (_, joins (b .pre .1) (d .drop-all .ensures) (o .before .before .before .cell-count .ensures) (stage-wide t o) (c .before .before .before .before .before .before .before .choose .ensures) (c .before .before .before .gate .given .1)))
 
 -- the network of the conditions left, whichever way it came
 stage-came : (t : ℕ) (c : stage-lts.At-match-came (stage-claims t) (stage-at t) stage.Post)
-    → let d = c .before .before .before .before .before .before .before .before .before .before in
-    let a = d .before .before .before .before .before .args in
+    → let d = c .before .before .before .before .before .before .before .before .before .before .before in
+    let a = d .before .before .before .before .args in
     Written (d .drop-all .result) (treeOf (a .m) (frontStage (a .ks) (a .w .now))) (c .before .before .before .choose .last .0) (a .network .now) (a .r) (c .match .e) (c .match .w) (c .match .network)
 stage-came t c =
-    let d = c .before .before .before .before .before .before .before .before .before .before in
-    let s = d .before .before .before .before .before .pre .1 in
-    let n : 2 ≤ width (d .drop-all .result) = search needs in
-    let e = c .before .before .before .before .before .cell-count2 .ensures in
-    let o = c .before .before .before .choose .ensures in
+    let o = c .before .before .before .before .before in
+    let d = o .before .before .before .before .before .before in
+    let s = d .before .before .before .before .pre .1 in
+    let e = o .before .before .before .cell-count .ensures in
+    let h = c .before .before .before .choose .ensures in
     ⊎-elim
-    (λ p. written-here (p .9) (p .10) (p .11) (split-done s (d .drop-all .ensures) e n o (p .1 .given .1) (p .4 .ensures)))
-    (λ p. written-here (p .10) (p .11) (p .12) (join-done s (d .drop-all .ensures) e n o (p .1 .given .1) (p .5 .ensures)))
+    (λ p. written-here (p .9) (p .10) (p .11) (split-done s (d .drop-all .ensures) e (stage-wide t o) h (p .1 .given .1) (p .4 .ensures)))
+    (λ p. written-here (p .10) (p .11) (p .12) (join-done s (d .drop-all .ensures) e (stage-wide t o) h (p .1 .given .1) (p .5 .ensures)))
     (c .match .came)
 
 stage-spread-requires-2 : (t : ℕ) → stage-lts.Need-spread-requires-2 (stage-claims t) (stage-at t) stage.Post
 stage-spread-requires-2 t c κs =
-    let d = c .before .before .before .before .before .before .before .before .before .before .before in
-    spread-room (d .before .before .before .before .before .pre .1) (d .drop-all .ensures) (stage-came t (c .before) .len ∙ c .before .before .before .before .choose .ensures .len)
+    let d = c .before .before .before .before .before .before .before .before .before .before .before .before in
+    spread-room (d .before .before .before .before .pre .1) (d .drop-all .ensures) (c .before .before .before .before .before .before .before .before .before .cell-count .ensures) (stage-came t (c .before) .len ∙ c .before .before .before .before .choose .ensures .len)
 
 stage-returns-2 : (t : ℕ) → stage-lts.Need-returns-2 (stage-claims t) (stage-at t) stage.Post
 stage-returns-2 t c =
-    let d = c .before .before .before .before .before .before .before .before .before .before .before .before .before .before in
-    whole (d .before .before .before .before .before .pre .1) (d .drop-all .ensures) (c .before .before .before .before .before .before .before .choose .ensures .len) (stage-came t (c .before .before .before .before)) (c .before .before .spread2 .ensures)
+    let d = c .before .before .before .before .before .before .before .before .before .before .before .before .before .before .before in
+    whole (d .before .before .before .before .pre .1) (d .drop-all .ensures) (c .before .before .before .before .before .before .before .choose .ensures .len) (stage-came t (c .before .before .before .before)) (c .before .before .spread2 .ensures)
 
 stage-same-length-3 : (t : ℕ) → stage-lts.Need-same-length-3 (stage-claims t) (stage-at t) stage.Post
 stage-same-length-3 t c = stage-returns-2 t c .len
@@ -472,36 +498,19 @@ pub +join+split+stage-spec : {M : Type 1} → statement M
     (join-sub-stage t)
     (join-part-stage-start t)
     (join-part-stage-end t)
+    (join-cell-count-requires t)
     (join-stage-requires t)
     (join-second-table-requires t)
     (join-sub-stage-2 t)
     (join-part-stage-start-2 t)
     (join-part-stage-end-2 t)
+    (join-cell-count-requires-2 t)
     (join-stage-requires-2 t)
     (join-close-join-requires t)
     (join-same-length t)
     (join-same-length-2 t)
     (join-returns t))
-    (λ t. split-lts.spec (
-      lowest-reads.Asked,
-      lowest-reads.Learnt,
-      singleton-reads.Asked,
-      singleton-reads.Learnt,
-      without-reads.Asked,
-      without-reads.Learnt,
-      cell-count-reads.Asked,
-      cell-count-reads.Learnt,
-      begin-value-reads.Asked,
-      begin-value-reads.Learnt,
-      stage-below t,
-      stage.Post,
-      uncofactor-reads.Asked,
-      uncofactor-reads.Learnt,
-      end-value-reads.Asked,
-      end-value-reads.Learnt,
-      copy-reads.Asked,
-      copy-reads.Learnt,
-    )
+    (λ t. split-lts.spec (split-claims t)
     (split-at t)
     split.Post
     split-Inv-loop
@@ -534,36 +543,19 @@ pub +join+split+stage-spec : {M : Type 1} → statement M
     (split-same-length t)
     (split-same-length-2 t)
     (split-returns t))
-    λ t. stage-lts.spec (
-      cell-count-reads.Asked,
-      cell-count-reads.Learnt,
-      drop-all-reads.Asked,
-      drop-all-reads.Learnt,
-      width-reads.Asked,
-      width-reads.Learnt,
-      leaf-reads.Asked,
-      leaf-reads.Learnt,
-      spread-reads.Asked,
-      spread-reads.Learnt,
-      choose-reads.Asked,
-      choose-reads.Learnt,
-      split-below t,
-      split.Post,
-      join-below t,
-      join.Post,
-    )
+    λ t. stage-lts.spec (stage-claims t)
     (stage-at t)
     stage.Post
-    (stage-cell-count-requires t)
     (stage-drop-all-requires t)
-    (stage-width-requires t)
+    (stage-cell-count-requires t)
+    (stage-lowest-requires t)
+    (stage-narrow-requires t)
     (stage-leaf-requires t)
     (stage-spread-requires t)
     (stage-add-result t)
     (stage-same-length t)
     (stage-same-length-2 t)
     (stage-returns t)
-    (stage-cell-count-requires-2 t)
     (stage-choose-requires t)
     (stage-enum-told t)
     (stage-split-requires t)

@@ -17,7 +17,7 @@ returns : tie.Need-returns
 returns c =
     let d = c .before .before in
     let b = d .before .before .before .before .before .before .before in
-    started (b .args .i) (b .args .j) (b .pre .2) (d .before .before .before .before .least-over .ensures) (d .least-over2 .ensures)
+    started (b .args .i) (b .args .j) (b .pre .3) (d .before .before .before .before .least-over .ensures) (d .least-over2 .ensures)
 
 pub start-sets-spec : {M : Type 1} → statement M
 start-sets-spec =

@@ -1,5 +1,5 @@
 -- `grouping::joins::may_add` meets its contract.
-use mathlib.Core.Path.{_≡_, sym, _∙_}
+use mathlib.Core.Path.{sym, _∙_}
 use mathlib.Core.List.{List}
 use Prim.Native.Nat.{ℕ, _-_, _≤_, _<_}
 use native.Mathlib.Omega.{arith}
@@ -13,16 +13,10 @@ use Rattle.grouping.proofs.joins.may_add.Tie as tie
 
 -- whatever places the step is of
 abbrev Inv-loop : tie.InvT-loop
-Inv-loop w i low keep grow n on₀ c₀ on c = (c ≤ n) × ((ks : List ℕ) → Begins ks i n on₀ → Scan ks i (addCell w ks i low keep grow) c on)
+Inv-loop w i n step low keep grow on₀ c₀ on c = (c ≤ n) × ((ks : List ℕ) → Begins ks i n on₀ → Scan ks i (addCell w ks i low keep grow) c on)
 
 abbrev μ-loop : tie.MeasureT-loop
-μ-loop w i low keep grow n on₀ c₀ on c = n - c
-
-cell-count-requires : tie.Need-cell-count-requires Inv-loop μ-loop
-cell-count-requires c κs = search needs
-
-step-requires : tie.Need-step-requires Inv-loop μ-loop
-step-requires c κs = search needs
+μ-loop w i n step low keep grow on₀ c₀ on c = n - c
 
 array-read-first : tie.Need-array-read-first Inv-loop μ-loop
 array-read-first c = search needs
@@ -34,20 +28,20 @@ first-requires : tie.Need-first-requires Inv-loop μ-loop
 first-requires c κs = search needs
 
 loop-holds : tie.Need-loop-holds Inv-loop μ-loop
-loop-holds c = let s = c .before .before .before .before .args in (search needs, λ ks x. scan-none (addCell (s .w .now) ks (s .i) (s .low) (s .keep) (s .grow)) x)
+loop-holds c = let s = c .before .before .args in (search needs, λ ks x. scan-none (addCell (s .w .now) ks (s .i) (s .low) (s .keep) (s .grow)) x)
 
 -- the walk at its first cell
-begun : (c : tie.After-first Inv-loop μ-loop) → let s = c .before .before .before .before .args in Begins (s .t2) (s .i) (c .before .before .cell-count .result) (c .first .result)
+begun : (c : tie.After-first Inv-loop μ-loop) → let s = c .before .before .args in Begins (s .t2) (s .i) (s .n) (c .first .result)
 begun c =
-    let b = c .before .before .before .before in
-    begins (b .pre .1 .shaped) (c .before .before .cell-count .ensures) (search needs) (c .before .step .ensures) (c .first .ensures)
+    let b = c .before .before in
+    begins (b .pre .1 .shaped) (b .pre .0 .count) (search needs) (b .pre .0 .step-is) (c .first .ensures)
 
 -- where the loop is
-at-cell : (c : tie.In-loop Inv-loop μ-loop) → let s = c .before .before .before .before .before .before .args in let l = c .before .loop in Scan (s .t2) (s .i) (addCell (s .w .now) (s .t2) (s .i) (s .low) (s .keep) (s .grow)) (l .c) (l .on)
-at-cell c = c .before .loop .inv .1 (c .before .before .before .before .before .before .args .t2) (begun (c .before .before))
+at-cell : (c : tie.In-loop Inv-loop μ-loop) → let s = c .before .before .before .before .args in let l = c .before .loop in Scan (s .t2) (s .i) (addCell (s .w .now) (s .t2) (s .i) (s .low) (s .keep) (s .grow)) (l .c) (l .on)
+at-cell c = c .before .loop .inv .1 (c .before .before .before .before .args .t2) (begun (c .before .before))
 
-inside : (c : tie.In-loop Inv-loop μ-loop) → c .before .loop .c < cells (c .before .before .before .before .before .before .args .t2)
-inside c = let e = c .before .before .before .before .cell-count .ensures in omega arith
+inside : (c : tie.In-loop Inv-loop μ-loop) → c .before .loop .c < cells (c .before .before .before .before .args .t2)
+inside c = let e = c .before .before .before .before .pre .0 .count in omega arith
 
 add-above-both : tie.Need-add-above-both Inv-loop μ-loop
 add-above-both c = search needs
@@ -64,13 +58,13 @@ shared-slice-read-above-both-2 c = search needs
 above-both-requires : tie.Need-above-both-requires Inv-loop μ-loop
 above-both-requires c κs =
     let t = c .before .before in
-    let p = t .before .before .before .before .before .before .pre .2 in
+    let p = t .before .before .before .before .pre .2 in
     walks-line (p .shaped) (at-cell t .walks) _ _ (p .second) (inside t)
 
 returns : tie.Need-returns Inv-loop μ-loop
 returns c =
     let t = c .before .before .before .before in
-    let b = t .before .before .before .before .before .before in
+    let b = t .before .before .before .before in
     let s = b .args in
     add-failed (s .w .now) (s .t2) (s .i) (s .low) (s .keep) (s .grow) (t .before .loop .c) (inside t)
     (sym (add-at (s .w .now) (s .t2) (s .i) (s .low) (s .keep) (s .grow) (b .pre .1 .shaped) (at-cell t .walks) (inside t)) ∙ test-refuses (c .before .above-both .ensures) (c .if1 .taken))
@@ -78,7 +72,7 @@ returns c =
 next-requires : tie.Need-next-requires Inv-loop μ-loop
 next-requires c κs =
     let t = c .before .before .before .before in
-    walks-room (t .before .before .before .before .before .before .pre .1 .shaped) (at-cell t .walks)
+    walks-room (t .before .before .before .before .pre .1 .shaped) (at-cell t .walks)
 
 add-c : tie.Need-add-c Inv-loop μ-loop
 add-c c = search needs
@@ -89,7 +83,7 @@ loop-less c = search needs
 loop-again : tie.Need-loop-again Inv-loop μ-loop
 loop-again c =
     let t = c .before .before .before .before .before in
-    let s = t .before .before .before .before .before .before .args in
+    let s = t .before .before .before .before .args in
     let l = t .before .loop in (
       search needs,
       λ ks x.
@@ -102,9 +96,9 @@ loop-again c =
 
 returns-2 : tie.Need-returns-2 Inv-loop μ-loop
 returns-2 c =
-    let b = c .before .before .before .before .before .before in
+    let b = c .before .before .before .before in
     let s = b .args in
-    let e = c .before .before .before .before .cell-count .ensures in
+    let e = b .pre .0 .count in
     add-passed (s .w .now) (s .t2) (s .i) (s .low) (s .keep) (s .grow) (omega arith) (c .before .loop .inv .1 (s .t2) (begun (c .before .before)) .passed)
 
 pub may-add-spec : {M : Type 1} → statement M
@@ -113,8 +107,6 @@ may-add-spec =
     (tie.spec
     Inv-loop
     μ-loop
-    cell-count-requires
-    step-requires
     array-read-first
     cast-first
     first-requires

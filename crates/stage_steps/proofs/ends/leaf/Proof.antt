@@ -1,24 +1,18 @@
 -- `stage_steps::ends::leaf` meets its contract.
+use mathlib.Core.Path.{_≡_}
 use native.Mathlib.Omega.{arith}
+use lib.ListN.{length}
 use Rattle.laws.proofs.CellLaws.{cells-pos}
-use Rattle.network_records.proofs.put_constant.Reads as put-constant-reads
-use Rattle.network_records.proofs.put_literal.Reads as put-literal-reads
-use Rattle.places.proofs.sets.lowest.Reads as lowest-reads
-use Rattle.places.proofs.sets.width.Reads as width-reads
-use Rattle.stage_steps.proofs.EndLaws.{One, leaf-none, leaf-one, one-place, one-room}
+use Rattle.laws.proofs.LowestLaws.{none-left}
+use Rattle.stage_steps.proofs.EndLaws.{One, leaf-none, leaf-one, one-room}
 use borrow.Author.Needs.{needs}
 use Rattle.stage_steps.proofs.ends.leaf.Statement.{statement}
 use Rattle.stage_steps.proofs.ends.leaf.Tie as tie
-use Rattle.stage_steps.proofs.ends.leaf.Reads as reads
-use Rattle.stage_steps.proofs.ends.leaf.Lts as lts
-
-width-requires : tie.Need-width-requires
-width-requires c κs = search needs
 
 shared-slice-read-put-constant : tie.Need-shared-slice-read-put-constant
 shared-slice-read-put-constant c =
-    let b = c .before .before .before .before .before .before in
-    omega (arith, cells-pos (b .args .t3) (b .pre .shaped .some), b .pre .work)
+    let b = c .before .before .before .before .before in
+    omega (arith, cells-pos (b .args .t3) (b .pre .0 .shaped .some), b .pre .0 .work)
 
 put-constant-requires : tie.Need-put-constant-requires
 put-constant-requires c κs = search needs
@@ -27,26 +21,20 @@ same-length : tie.Need-same-length
 same-length c = search needs
 
 returns : tie.Need-returns
-returns c = leaf-none (c .before .before .before .before .before .before .before .before .before .pre) (omega (arith, c .before .before .before .before .before .before .width .ensures, c .before .before .before .before .before .if1 .taken)) (c .before .before .put-constant .ensures)
+returns c =
+    let b = c .before .before .before .before .before .before .before .before in
+    let e = b .pre .1 in
+    let l : length (b .args .t3) ≡ 8 = search needs in
+    leaf-none (b .pre .0) (none-left (b .args .t3) (b .pre .0 .shaped .some) (let h = c .before .before .before .before .before .if1 .taken in omega arith)) (c .before .before .put-constant .ensures)
 
-lowest-requires : tie.Need-lowest-requires
-lowest-requires c κs = search needs
-
-one : (c : lts.After-lowest (width-reads.Asked, width-reads.Learnt, put-constant-reads.Asked, put-constant-reads.Learnt, lowest-reads.Asked, lowest-reads.Learnt, put-literal-reads.Asked, put-literal-reads.Learnt) reads.Pre reads.Post)
-    → let a = c .before .before .before .before .before .args in One (a .w .now) (a .network .now) (a .t3) (a .r) (c .lowest .result)
-one c =
-    record {
-      room = c .before .before .before .before .before .pre;
-      places = search needs;
-      some = omega (arith, c .before .before .width .ensures, c .before .if1 .left);
-      found = c .lowest .ensures;
-    }
+one : (c : tie.Else1) → let a = c .before .before .before .args in One (a .w .now) (a .network .now) (a .t3) (a .r) (a .i)
+one c = let b = c .before .before .before in record { room = b .pre .0; places = search needs; found = b .pre .1; place = search needs }
 
 cast-put-literal : tie.Need-cast-put-literal
-cast-put-literal c = omega (arith, one-place (one (c .before)))
+cast-put-literal c = search needs
 
 array-read-put-literal : tie.Need-array-read-put-literal
-array-read-put-literal c = one-place (one (c .before))
+array-read-put-literal c = search needs
 
 cast-put-literal-2 : tie.Need-cast-put-literal-2
 cast-put-literal-2 c = search needs
@@ -64,12 +52,10 @@ pub leaf-spec : {M : Type 1} → statement M
 leaf-spec =
     tie.close
     (tie.spec
-    width-requires
     shared-slice-read-put-constant
     put-constant-requires
     same-length
     returns
-    lowest-requires
     cast-put-literal
     array-read-put-literal
     cast-put-literal-2

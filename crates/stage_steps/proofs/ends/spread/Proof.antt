@@ -4,46 +4,24 @@ use borrow.Author.Needs.{needs}
 use Rattle.stage_steps.proofs.ends.spread.Statement.{statement}
 use Rattle.stage_steps.proofs.ends.spread.Tie as tie
 
-same-requires : tie.Need-same-requires
-same-requires c κs = search needs
-
 returns : tie.Need-returns
-returns c = spread-none (c .before .before .before .pre) (c .before .same .ensures (c .if1 .taken))
-
-cell-count-requires : tie.Need-cell-count-requires
-cell-count-requires c κs = search needs
+returns c = spread-none (c .before .before .pre) (c .if1 .taken)
 
 mul-spare : tie.Need-mul-spare
 mul-spare c = search needs
 
-cell-count-requires-2 : tie.Need-cell-count-requires-2
-cell-count-requires-2 c κs = search needs
-
 copy-requires : tie.Need-copy-requires
-copy-requires c κs = copy-room (c .before .before .before .before .before .before .pre) (c .cell-count2 .ensures) (c .before .before .cell-count .ensures)
+copy-requires c κs = copy-room (c .before .before .before .pre)
 
 moved-requires : tie.Need-moved-requires
-moved-requires c κs =
-    let p = c .before .before .before .before .before .before .before .before .before .before .pre in
-    (p .fewer, p .shaped, moved-room p (c .before .before .before .before .cell-count2 .ensures) (c .before .before .before .before .before .before .cell-count .ensures) (c .before .before .before .copy .ensures))
+moved-requires c κs = let p = c .before .before .before .before .before .before .before .pre in (p .fewer, p .shaped, p .all, moved-room p (c .before .before .before .copy .ensures))
 
 same-length : tie.Need-same-length
 same-length c = search needs
 
 returns-2 : tie.Need-returns-2
-returns-2 c =
-    spread-some (c .before .before .before .before .before .before .before .before .before .before .before .before .before .pre) (c .before .before .before .before .before .before .before .cell-count2 .ensures) (c .before .before .before .before .before .before .before .before .before .cell-count .ensures) (c .before .before .before .before .before .before .copy .ensures) (c .before .before .moved .ensures)
+returns-2 c = spread-some (c .before .before .before .before .before .before .before .before .before .before .pre) (c .before .before .before .before .before .before .copy .ensures) (c .before .before .moved .ensures)
 
 pub spread-spec : {M : Type 1} → statement M
 spread-spec =
-    tie.close
-    (tie.spec
-    same-requires
-    returns
-    cell-count-requires
-    mul-spare
-    cell-count-requires-2
-    copy-requires
-    moved-requires
-    same-length
-    returns-2)
+    tie.close (tie.spec returns mul-spare copy-requires moved-requires same-length returns-2)

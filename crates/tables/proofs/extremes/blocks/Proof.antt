@@ -11,37 +11,37 @@ use Rattle.tables.proofs.PartLaws.{Filled, filled-none, filled-laid}
 use Rattle.tables.proofs.LineLaws.{block-in, blocks-more}
 use Rattle.tables.proofs.extremes.blocks.Statement.{statement}
 use Rattle.tables.proofs.extremes.blocks.Tie as tie
-use Rattle.tables.proofs.extremes.lines.Reads as lines-reads
+use Rattle.tables.proofs.extremes.block.Reads as block-reads
 use Rattle.tables.proofs.extremes.blocks.Lts as lts
 use Rattle.tables.proofs.extremes.blocks.Reads as reads
 
 abbrev Inv-loop : tie.InvT-loop
-Inv-loop w₀ greatest a count step card block b₀ w b = (b ≤ count) × Filled w₀ a (at (alongLines greatest (part w₀ a (step * card * count)) step card count)) (step * card * b) w
+Inv-loop w₀ greatest a count step card cells b₀ w b = (b ≤ count) × Filled w₀ a (at (alongLines greatest (part w₀ a (step * card * count)) step card count)) (step * card * b) w
 
 abbrev μ-loop : tie.MeasureT-loop
-μ-loop w₀ greatest a count step card block b₀ w b = count - b
+μ-loop w₀ greatest a count step card cells b₀ w b = count - b
 
-mul-block : tie.Need-mul-block Inv-loop μ-loop
-mul-block c = let b = c .before in omega (arith, block-in (b .args .w .now) 0 (b .pre) refl (b .pre .more) .inside)
+mul-cells : tie.Need-mul-cells Inv-loop μ-loop
+mul-cells c = let b = c .before in omega (arith, block-in (b .args .w .now) 0 (b .pre) refl (b .pre .more) .inside)
 
 loop-holds : tie.Need-loop-holds Inv-loop μ-loop
 loop-holds c = (search needs, rw mul-zero (filled-none _ _ _))
 
 -- the block that the loop is at
-here : (c : lts.In-loop (lines-reads.Asked, lines-reads.Learnt) reads.Pre reads.Post Inv-loop μ-loop)
+here : (c : lts.In-loop (block-reads.Asked, block-reads.Learnt) reads.Pre reads.Post Inv-loop μ-loop)
     → let s = c .before .before .before .args in let l = c .before .loop in Block (l .w) (s .a + s .step * s .card * l .b) (s .step) (s .card)
 here c =
     let l = c .before .loop in
     block-in (l .w) (l .b) (c .before .before .before .pre) (l .inv .1 .len) (c .loop-test .taken)
 
-mul-lines : tie.Need-mul-lines Inv-loop μ-loop
-mul-lines c = omega (arith, here (c .before) .inside)
+mul-block : tie.Need-mul-block Inv-loop μ-loop
+mul-block c = omega (arith, here (c .before) .inside)
 
-add-lines : tie.Need-add-lines Inv-loop μ-loop
-add-lines c = omega (arith, here (c .before) .inside)
+add-block : tie.Need-add-block Inv-loop μ-loop
+add-block c = omega (arith, here (c .before) .inside)
 
-lines-requires : tie.Need-lines-requires Inv-loop μ-loop
-lines-requires c κs = here (c .before)
+block-requires : tie.Need-block-requires Inv-loop μ-loop
+block-requires c κs = here (c .before)
 
 add-b : tie.Need-add-b Inv-loop μ-loop
 add-b c = search needs
@@ -52,7 +52,7 @@ loop-less c = search needs
 loop-again : tie.Need-loop-again Inv-loop μ-loop
 loop-again c =
     let t = c .before .before .before .before in
-    (search needs, blocks-more (t .before .before .before .pre) (t .loop-test .taken) (t .before .loop .inv .1) (c .before .before .lines .ensures))
+    (search needs, blocks-more (t .before .before .before .pre) (t .loop-test .taken) (t .before .loop .inv .1) (c .before .before .block .ensures))
 
 same-length : tie.Need-same-length Inv-loop μ-loop
 same-length c = search needs
@@ -69,11 +69,11 @@ blocks-spec =
     (tie.spec
     Inv-loop
     μ-loop
-    mul-block
+    mul-cells
     loop-holds
-    mul-lines
-    add-lines
-    lines-requires
+    mul-block
+    add-block
+    block-requires
     add-b
     loop-less
     loop-again

@@ -5,7 +5,6 @@ use mathlib.Core.Bool.{false, not}
 use native.Mathlib.Omega.{arith}
 use lib.Dec.{leb}
 use borrow.Author.Tests.{le-leb}
-use borrow.Author.Needs.{needs}
 use Rattle.tables.specs.Line.{lineBest, lineStart, Line, leastOn}
 use Rattle.tables.proofs.AlongLaws.{stands-start}
 use Rattle.tables.proofs.lines.below_at.Statement.{statement}

@@ -1,5 +1,4 @@
 -- `tables::lines::next` meets its contract.
-use Prim.Native.Nat.{_≤_}
 use borrow.Author.Needs.{needs}
 use Rattle.tables.proofs.AlongLaws.{next-on, next-value, next-block}
 use Rattle.tables.proofs.lines.next.Statement.{statement}
