@@ -6,9 +6,15 @@ use tables::extremes;
 use tables::lines;
 ghost use mathlib.Core.Path.{_≡_};
 ghost use mathlib.Core.Bool.{cond};
-ghost use Rattle.rules.specs.Cell.{singleton, without};
+ghost use Rattle.rules.specs.Cell.{cells, singleton, without};
 ghost use Rattle.rules.specs.Stage.{outside, merged, fits, dropOne, left};
 ghost use Rattle.stage_drops.specs.Working.{Room, Trying, frontStage, Turned};
+
+// What a stage has left: its places, and how many cells these have.
+pub struct Left {
+    pub places: [u8; PLACES],
+    pub cells: usize,
+}
 
 // The stage without condition i, under the limits that are left when it is dropped.
 fn drop_condition(w: &mut [u8], ks: [u8; PLACES], i: usize, n: usize, step: usize)
@@ -52,9 +58,9 @@ fn drop_if_possible(w: &mut [u8], ks: [u8; PLACES], i: usize, n: usize, step: us
 }
 
 // The stage with its conditions left, under its limits from then on.
-pub fn drop_all(w: &mut [u8], ks: [u8; PLACES], c: usize) -> [u8; PLACES]
+pub fn drop_all(w: &mut [u8], ks: [u8; PLACES], c: usize) -> Left
     requires { ⌜ Room (now w) ks c ⌝ }
-    ensures { λ r. ⌜ Turned left ks (now (w .entry)) r (now (w .exit)) ⌝ }
+    ensures { λ r. ⌜ Turned left ks (now (w .entry)) (r .places) (now (w .exit)) × (r .cells ≡ cells (r .places)) ⌝ }
 {
     let mut left = ks;
     let mut n = c;
@@ -67,5 +73,8 @@ pub fn drop_all(w: &mut [u8], ks: [u8; PLACES], c: usize) -> [u8; PLACES]
         }
         step = step * (left[i] as usize);
     }
-    left
+    Left {
+        places: left,
+        cells: n,
+    }
 }

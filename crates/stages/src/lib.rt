@@ -63,8 +63,9 @@ pub fn stage(w: &mut [u8], network: &mut [u8], ks: [u8; PLACES], c: usize, m: u8
     requires { ⌜ Starts m ks c (now w) (now network) r ⌝ }
     ensures { λ e. ⌜ Written ks (treeOf m (frontStage ks (now (w .entry)))) (now (w .entry)) (now (network .entry)) r e (now (w .exit)) (now (network .exit)) ⌝ }
 {
-    let left = stage_drops::drop_all(w, ks, c);
-    let n = places::cell_count(left);
+    let kept = stage_drops::drop_all(w, ks, c);
+    let left = kept.places;
+    let n = kept.cells;
     let i = sets::lowest(left);
     if ends::narrow(left, i, n) {
         ends::leaf(w, network, left, i, r);

@@ -73,7 +73,7 @@ returns : tie.Need-returns Inv-loop μ-loop
 returns c =
     let l = c .before .loop in
     let e : length (c .before .before .before .args .ks) ≡ 8 = search needs in
-    tried-all (l .i) (omega arith) (l .inv .1 .tried)
+    (tried-all (l .i) (omega arith) (l .inv .1 .tried), l .inv .1 .count)
 
 pub drop-all-spec : {M : Type 1} → statement M
 drop-all-spec =

@@ -83,7 +83,7 @@ split-claims t = (lowest-reads.Asked, lowest-reads.Learnt, singleton-reads.Asked
 
 -- what `stage` asks and learns of the functions that it calls
 abbrev stage-claims : ℕ → stage-lts.Claims
-stage-claims t = (drop-all-reads.Asked, drop-all-reads.Learnt, cell-count-reads.Asked, cell-count-reads.Learnt, lowest-reads.Asked, lowest-reads.Learnt, narrow-reads.Asked, narrow-reads.Learnt, leaf-reads.Asked, leaf-reads.Learnt, spread-reads.Asked, spread-reads.Learnt, choose-reads.Asked, choose-reads.Learnt, split-below t, split.Post, join-below t, join.Post)
+stage-claims t = (drop-all-reads.Asked, drop-all-reads.Learnt, lowest-reads.Asked, lowest-reads.Learnt, narrow-reads.Asked, narrow-reads.Learnt, leaf-reads.Asked, leaf-reads.Learnt, spread-reads.Asked, spread-reads.Learnt, choose-reads.Asked, choose-reads.Learnt, split-below t, split.Post, join-below t, join.Post)
 
 join-mul-rest : (t : ℕ) → join-lts.Need-mul-rest (join-claims t) (join-at t) join.Post
 join-mul-rest t c =
@@ -387,27 +387,24 @@ split-same-length-2 t c = split-returns t c .put .bytes .len
 stage-drop-all-requires : (t : ℕ) → stage-lts.Need-drop-all-requires (stage-claims t) (stage-at t) stage.Post
 stage-drop-all-requires t c κs = own-room (c .before .before .before .pre .1)
 
-stage-cell-count-requires : (t : ℕ) → stage-lts.Need-cell-count-requires (stage-claims t) (stage-at t) stage.Post
-stage-cell-count-requires t c κs = tt
-
 stage-lowest-requires : (t : ℕ) → stage-lts.Need-lowest-requires (stage-claims t) (stage-at t) stage.Post
 stage-lowest-requires t c κs = tt
 
 stage-narrow-requires : (t : ℕ) → stage-lts.Need-narrow-requires (stage-claims t) (stage-at t) stage.Post
 stage-narrow-requires t c κs =
     let d = c .before .before .before .before in
-    narrow-room (d .before .before .before .before .pre .1) (d .drop-all .ensures) (c .lowest .ensures) (c .before .cell-count .ensures)
+    narrow-room (d .before .before .before .before .pre .1) (d .drop-all .ensures .0) (c .lowest .ensures) (d .drop-all .ensures .1)
 
 stage-leaf-requires : (t : ℕ) → stage-lts.Need-leaf-requires (stage-claims t) (stage-at t) stage.Post
 stage-leaf-requires t c κs =
     let d = c .before .before .before .before .before .before .before .before in
     let w = c .before .before .before .narrow .ensures in
-    (leaf-room (d .before .before .before .before .pre .1) (d .drop-all .ensures) (ltb-true _ 2 (sym w ∙ c .before .before .if1 .taken)), c .before .before .before .before .lowest .ensures)
+    (leaf-room (d .before .before .before .before .pre .1) (d .drop-all .ensures .0) (ltb-true _ 2 (sym w ∙ c .before .before .if1 .taken)), c .before .before .before .before .lowest .ensures)
 
 stage-spread-requires : (t : ℕ) → stage-lts.Need-spread-requires (stage-claims t) (stage-at t) stage.Post
 stage-spread-requires t c κs =
     let d = c .before .before .before .before .before .before .before .before .before .before .before .before in
-    spread-room (d .before .before .before .before .pre .1) (d .drop-all .ensures) (c .before .before .before .before .before .before .before .before .before .cell-count .ensures) refl
+    spread-room (d .before .before .before .before .pre .1) (d .drop-all .ensures .0) (d .drop-all .ensures .1) refl
 
 stage-add-result : (t : ℕ) → stage-lts.Need-add-result (stage-claims t) (stage-at t) stage.Post
 stage-add-result t c =
@@ -420,7 +417,7 @@ stage-returns : (t : ℕ) → stage-lts.Need-returns (stage-claims t) (stage-at 
 stage-returns t c =
     let d = c .before .before .before .before .before .before .before .before .before .before .before .before .before .before .before in
     let w = c .before .before .before .before .before .before .before .before .before .before .narrow .ensures in
-    leaf-whole (d .before .before .before .before .pre .1) (d .drop-all .ensures) (ltb-true _ 2 (sym w ∙ c .before .before .before .before .before .before .before .before .before .if1 .taken)) (c .before .before .before .before .before .before .leaf .ensures) (c .before .before .spread .ensures)
+    leaf-whole (d .before .before .before .before .pre .1) (d .drop-all .ensures .0) (ltb-true _ 2 (sym w ∙ c .before .before .before .before .before .before .before .before .before .if1 .taken)) (c .before .before .before .before .before .before .leaf .ensures) (c .before .before .spread .ensures)
 
 stage-same-length : (t : ℕ) → stage-lts.Need-same-length (stage-claims t) (stage-at t) stage.Post
 stage-same-length t c = stage-returns t c .len
@@ -431,13 +428,13 @@ stage-same-length-2 t c = stage-returns t c .put .bytes .len
 stage-choose-requires : (t : ℕ) → stage-lts.Need-choose-requires (stage-claims t) (stage-at t) stage.Post
 stage-choose-requires t c κs =
     let d = c .before .before .before .before .before .before .before in
-    choose-room (d .before .before .before .before .pre .1) (d .drop-all .ensures) (c .before .before .before .before .cell-count .ensures)
+    choose-room (d .before .before .before .before .pre .1) (d .drop-all .ensures .0) (d .drop-all .ensures .1)
 
 stage-enum-told : (t : ℕ) → stage-lts.Need-enum-told (stage-claims t) (stage-at t) stage.Post
 stage-enum-told t c = search needs
 
 -- two or more conditions are left
-stage-wide : (t : ℕ) (c : stage-lts.Else1 (stage-claims t) (stage-at t) stage.Post) → 2 ≤ width (c .before .before .before .before .before .before .drop-all .result)
+stage-wide : (t : ℕ) (c : stage-lts.Else1 (stage-claims t) (stage-at t) stage.Post) → 2 ≤ width (c .before .before .before .before .before .before .drop-all .result .places)
 stage-wide t c = ltb-false _ 2 (sym (c .before .narrow .ensures) ∙ c .if1 .left)
 
 stage-split-requires : (t : ℕ) → stage-lts.Need-split-requires (stage-claims t) (stage-at t) stage.Post
@@ -445,7 +442,7 @@ stage-split-requires t c κs =
     let o = c .before .before .before .before .before .before .before .before in
     let d = o .before .before .before .before .before .before in
     let b = d .before .before .before .before in
-    (let e = b .pre .0 in let f = fewer (b .pre .1) (d .drop-all .ensures) in omega arith, splits (b .pre .1) (d .drop-all .ensures) (o .before .before .before .cell-count .ensures) (stage-wide t o) (c .before .before .before .before .before .before .choose .ensures) (c .before .before .enum-told .given .1))
+    (let e = b .pre .0 in let f = fewer (b .pre .1) (d .drop-all .ensures .0) in omega arith, splits (b .pre .1) (d .drop-all .ensures .0) (d .drop-all .ensures .1) (stage-wide t o) (c .before .before .before .before .before .before .choose .ensures) (c .before .before .enum-told .given .1))
 
 stage-enum-known-gate : (t : ℕ) → stage-lts.Need-enum-known-gate (stage-claims t) (stage-at t) stage.Post
 stage-enum-known-gate t c = search needs
@@ -455,33 +452,33 @@ stage-join-requires t c κs =
     let o = c .before .before .before .before .before .before .before .before .before in
     let d = o .before .before .before .before .before .before in
     let b = d .before .before .before .before in
-    (let e = b .pre .0 in let f = fewer (b .pre .1) (d .drop-all .ensures) in omega arith, (_, joins (b .pre .1) (d .drop-all .ensures) (o .before .before .before .cell-count .ensures) (stage-wide t o) (c .before .before .before .before .before .before .before .choose .ensures) (c .before .before .before .gate .given .1)))
+    (let e = b .pre .0 in let f = fewer (b .pre .1) (d .drop-all .ensures .0) in omega arith, (_, joins (b .pre .1) (d .drop-all .ensures .0) (d .drop-all .ensures .1) (stage-wide t o) (c .before .before .before .before .before .before .before .choose .ensures) (c .before .before .before .gate .given .1)))
 
 -- the network of the conditions left, whichever way it came
 stage-came : (t : ℕ) (c : stage-lts.At-match-came (stage-claims t) (stage-at t) stage.Post)
     → let d = c .before .before .before .before .before .before .before .before .before .before .before in
     let a = d .before .before .before .before .args in
-    Written (d .drop-all .result) (treeOf (a .m) (frontStage (a .ks) (a .w .now))) (c .before .before .before .choose .last .0) (a .network .now) (a .r) (c .match .e) (c .match .w) (c .match .network)
+    Written (d .drop-all .result .places) (treeOf (a .m) (frontStage (a .ks) (a .w .now))) (c .before .before .before .choose .last .0) (a .network .now) (a .r) (c .match .e) (c .match .w) (c .match .network)
 stage-came t c =
     let o = c .before .before .before .before .before in
     let d = o .before .before .before .before .before .before in
     let s = d .before .before .before .before .pre .1 in
-    let e = o .before .before .before .cell-count .ensures in
+    let e = d .drop-all .ensures .1 in
     let h = c .before .before .before .choose .ensures in
     ⊎-elim
-    (λ p. written-here (p .9) (p .10) (p .11) (split-done s (d .drop-all .ensures) e (stage-wide t o) h (p .1 .given .1) (p .4 .ensures)))
-    (λ p. written-here (p .10) (p .11) (p .12) (join-done s (d .drop-all .ensures) e (stage-wide t o) h (p .1 .given .1) (p .5 .ensures)))
+    (λ p. written-here (p .9) (p .10) (p .11) (split-done s (d .drop-all .ensures .0) e (stage-wide t o) h (p .1 .given .1) (p .4 .ensures)))
+    (λ p. written-here (p .10) (p .11) (p .12) (join-done s (d .drop-all .ensures .0) e (stage-wide t o) h (p .1 .given .1) (p .5 .ensures)))
     (c .match .came)
 
 stage-spread-requires-2 : (t : ℕ) → stage-lts.Need-spread-requires-2 (stage-claims t) (stage-at t) stage.Post
 stage-spread-requires-2 t c κs =
     let d = c .before .before .before .before .before .before .before .before .before .before .before .before in
-    spread-room (d .before .before .before .before .pre .1) (d .drop-all .ensures) (c .before .before .before .before .before .before .before .before .before .cell-count .ensures) (stage-came t (c .before) .len ∙ c .before .before .before .before .choose .ensures .len)
+    spread-room (d .before .before .before .before .pre .1) (d .drop-all .ensures .0) (d .drop-all .ensures .1) (stage-came t (c .before) .len ∙ c .before .before .before .before .choose .ensures .len)
 
 stage-returns-2 : (t : ℕ) → stage-lts.Need-returns-2 (stage-claims t) (stage-at t) stage.Post
 stage-returns-2 t c =
     let d = c .before .before .before .before .before .before .before .before .before .before .before .before .before .before .before in
-    whole (d .before .before .before .before .pre .1) (d .drop-all .ensures) (c .before .before .before .before .before .before .before .choose .ensures .len) (stage-came t (c .before .before .before .before)) (c .before .before .spread2 .ensures)
+    whole (d .before .before .before .before .pre .1) (d .drop-all .ensures .0) (c .before .before .before .before .before .before .before .choose .ensures .len) (stage-came t (c .before .before .before .before)) (c .before .before .spread2 .ensures)
 
 stage-same-length-3 : (t : ℕ) → stage-lts.Need-same-length-3 (stage-claims t) (stage-at t) stage.Post
 stage-same-length-3 t c = stage-returns-2 t c .len
@@ -547,7 +544,6 @@ pub +join+split+stage-spec : {M : Type 1} → statement M
     (stage-at t)
     stage.Post
     (stage-drop-all-requires t)
-    (stage-cell-count-requires t)
     (stage-lowest-requires t)
     (stage-narrow-requires t)
     (stage-leaf-requires t)
