@@ -94,23 +94,21 @@ join-mul-rest t c =
 join-first-table-requires : (t : ℕ) → join-lts.Need-first-table-requires (join-claims t) (join-at t) join.Post
 join-first-table-requires t c κs = first-room (c .before .before .before .pre .1 .1)
 
-join-sub-stage : (t : ℕ) → join-lts.Need-sub-stage (join-claims t) (join-at t) join.Post
-join-sub-stage t c =
+-- the parts of a stage end within its buffer, before either block's stage
+join-parts : (t : ℕ) (c : join-lts.After-slice-known3 (join-claims t) (join-at t) join.Post) → 8 * c .before .before .before .before .before .before .args .c ≤ length (c .before .before .first-table .last .0)
+join-parts t c =
     let h = c .before .before .before .before .before .before .pre .1 .1 .left .work in
     let e = c .before .before .first-table .ensures .len in
     omega arith
 
+join-sub-stage : (t : ℕ) → join-lts.Need-sub-stage (join-claims t) (join-at t) join.Post
+join-sub-stage t c = omega (arith, join-parts t c)
+
 join-part-stage-start : (t : ℕ) → join-lts.Need-part-stage-start (join-claims t) (join-at t) join.Post
-join-part-stage-start t c =
-    let h = c .before .before .before .before .before .before .pre .1 .1 .left .work in
-    let e = c .before .before .first-table .ensures .len in
-    search needs
+join-part-stage-start t c = let h = join-parts t c in search needs
 
 join-part-stage-end : (t : ℕ) → join-lts.Need-part-stage-end (join-claims t) (join-at t) join.Post
-join-part-stage-end t c =
-    let h = c .before .before .before .before .before .before .pre .1 .1 .left .work in
-    let e = c .before .before .first-table .ensures .len in
-    search needs
+join-part-stage-end t c = let h = join-parts t c in search needs
 
 join-cell-count-requires : (t : ℕ) → join-lts.Need-cell-count-requires (join-claims t) (join-at t) join.Post
 join-cell-count-requires t c κs = tt
@@ -131,8 +129,8 @@ join-second-table-requires t c κs =
     let x = c .before .before .before .before .before .stage .ensures in
     second-room j f x (first-back j f x)
 
-join-sub-stage-2 : (t : ℕ) → join-lts.Need-sub-stage-2 (join-claims t) (join-at t) join.Post
-join-sub-stage-2 t c =
+join-parts-2 : (t : ℕ) (c : join-lts.After-slice-known6 (join-claims t) (join-at t) join.Post) → 8 * c .before .before .before .before .before .before .before .before .before .before .before .before .before .before .before .before .before .before .args .c ≤ length (c .before .before .second-table .last .0)
+join-parts-2 t c =
     let d = c .before .before .before .before .before .before .before .before .before .before .before .before .before .before in
     let b = d .before .before .before .before in
     let h = b .pre .1 .1 .left .work in
@@ -141,25 +139,14 @@ join-sub-stage-2 t c =
     let i = c .before .before .second-table .ensures .len in
     omega arith
 
+join-sub-stage-2 : (t : ℕ) → join-lts.Need-sub-stage-2 (join-claims t) (join-at t) join.Post
+join-sub-stage-2 t c = omega (arith, join-parts-2 t c)
+
 join-part-stage-start-2 : (t : ℕ) → join-lts.Need-part-stage-start-2 (join-claims t) (join-at t) join.Post
-join-part-stage-start-2 t c =
-    let d = c .before .before .before .before .before .before .before .before .before .before .before .before .before .before in
-    let b = d .before .before .before .before in
-    let h = b .pre .1 .1 .left .work in
-    let k = first-back (b .pre .1 .1) (d .first-table .ensures) (c .before .before .before .before .before .before .before .before .stage .ensures) .len in
-    let e = d .first-table .ensures .len in
-    let i = c .before .before .second-table .ensures .len in
-    search needs
+join-part-stage-start-2 t c = let h = join-parts-2 t c in search needs
 
 join-part-stage-end-2 : (t : ℕ) → join-lts.Need-part-stage-end-2 (join-claims t) (join-at t) join.Post
-join-part-stage-end-2 t c =
-    let d = c .before .before .before .before .before .before .before .before .before .before .before .before .before .before in
-    let b = d .before .before .before .before in
-    let h = b .pre .1 .1 .left .work in
-    let k = first-back (b .pre .1 .1) (d .first-table .ensures) (c .before .before .before .before .before .before .before .before .stage .ensures) .len in
-    let e = d .first-table .ensures .len in
-    let i = c .before .before .second-table .ensures .len in
-    search needs
+join-part-stage-end-2 t c = let h = join-parts-2 t c in search needs
 
 join-cell-count-requires-2 : (t : ℕ) → join-lts.Need-cell-count-requires-2 (join-claims t) (join-at t) join.Post
 join-cell-count-requires-2 t c κs = tt
@@ -260,9 +247,11 @@ split-loop-holds t c = (omega arith, λ ks h a. turn-none _ ks _ _ _ _)
 
 split-cast-begin-value : (t : ℕ) → split-lts.Need-cast-begin-value (split-claims t) (split-at t) split.Post split-Inv-loop split-μ-loop
 split-cast-begin-value t c =
-    let e : length (c .before .before .before .before .before .before .before .before .before .before .args .t3) ≡ 8 = search needs in
-    let l = lowest-below (c .before .before .before .before .before .before .before .before .before .before .pre .1) e in
-    let i = c .before .before .before .before .before .before .before .lowest .ensures in
+    let q = c .before .before .before .before in
+    let b = q .before .before .before .before .before .before in
+    let e : length (b .args .t3) ≡ 8 = search needs in
+    let l = lowest-below (b .pre .1) e in
+    let i = q .before .before .before .lowest .ensures in
     search needs
 
 split-sub-begin-value : (t : ℕ) → split-lts.Need-sub-begin-value (split-claims t) (split-at t) split.Post split-Inv-loop split-μ-loop
@@ -270,74 +259,93 @@ split-sub-begin-value t c = c .before .before .before .before .before .before .b
 
 split-begin-value-requires : (t : ℕ) → split-lts.Need-begin-value-requires (split-claims t) (split-at t) split.Post split-Inv-loop split-μ-loop
 split-begin-value-requires t c κs =
-    let h = c .before .before .before .before .before .before .before .before .before .before .pre .1 in
-    let a = split-axis t (c .before .before .before .before) in
-    value-room h a (c .before .before .before .loop .inv .1 _ h a) (search needs)
+    let p = c .before .before in
+    let q = p .before .before in
+    let h = q .before .before .before .before .before .before .pre .1 in
+    let a = split-axis t q in
+    let u = p .before .loop .inv .1 _ h a in
+    let lt = p .loop-test .taken in
+    value-room h a u lt
 
-split-sub-stage : (t : ℕ) → split-lts.Need-sub-stage (split-claims t) (split-at t) split.Post split-Inv-loop split-μ-loop
-split-sub-stage t c =
-    let h = c .before .before .before .before .before .before .before .before .before .before .before .before .before .before .before .pre .1 .left .work in
-    let a = c .before .before .before .before .begin-value .ensures .len in
-    let u = c .before .before .before .before .before .before .before .before .loop .inv .1 _ (c .before .before .before .before .before .before .before .before .before .before .before .before .before .before .before .pre .1) (split-axis t (c .before .before .before .before .before .before .before .before .before)) .len in
+-- the parts end within the buffer, before a value's stage
+split-parts : (t : ℕ) (c : split-lts.After-slice-known4 (split-claims t) (split-at t) split.Post split-Inv-loop split-μ-loop) → 8 * c .before .before .before .before .before .before .before .before .before .before .before .before .before .before .before .args .c ≤ length (c .before .before .before .before .begin-value .last .0)
+split-parts t c =
+    let p = c .before .before .before .before .before .before .before in
+    let q = p .before .before in
+    let h = q .before .before .before .before .before .before .pre .1 in
+    let a = split-axis t q in
+    let u = p .before .loop .inv .1 _ h a in
+    let lt = p .loop-test .taken in
+    let w = h .left .work in
+    let g = c .before .before .before .before .begin-value .ensures .len in
+    let l = u .len in
     omega arith
 
+split-sub-stage : (t : ℕ) → split-lts.Need-sub-stage (split-claims t) (split-at t) split.Post split-Inv-loop split-μ-loop
+split-sub-stage t c = omega (arith, split-parts t c)
+
 split-part-stage-start : (t : ℕ) → split-lts.Need-part-stage-start (split-claims t) (split-at t) split.Post split-Inv-loop split-μ-loop
-split-part-stage-start t c =
-    let h = c .before .before .before .before .before .before .before .before .before .before .before .before .before .before .before .pre .1 .left .work in
-    let a = c .before .before .before .before .begin-value .ensures .len in
-    let u = c .before .before .before .before .before .before .before .before .loop .inv .1 _ (c .before .before .before .before .before .before .before .before .before .before .before .before .before .before .before .pre .1) (split-axis t (c .before .before .before .before .before .before .before .before .before)) .len in
-    search needs
+split-part-stage-start t c = let h = split-parts t c in search needs
 
 split-part-stage-end : (t : ℕ) → split-lts.Need-part-stage-end (split-claims t) (split-at t) split.Post split-Inv-loop split-μ-loop
-split-part-stage-end t c =
-    let h = c .before .before .before .before .before .before .before .before .before .before .before .before .before .before .before .pre .1 .left .work in
-    let a = c .before .before .before .before .begin-value .ensures .len in
-    let u = c .before .before .before .before .before .before .before .before .loop .inv .1 _ (c .before .before .before .before .before .before .before .before .before .before .before .before .before .before .before .pre .1) (split-axis t (c .before .before .before .before .before .before .before .before .before)) .len in
-    search needs
+split-part-stage-end t c = let h = split-parts t c in search needs
 
 split-add-stage : (t : ℕ) → split-lts.Need-add-stage (split-claims t) (split-at t) split.Post split-Inv-loop split-μ-loop
 split-add-stage t c =
-    let h = c .before .before .before .before .before .before .before .before .before .before .before .before .before .before .before .before .before .pre .1 in
-    let a = split-axis t (c .before .before .before .before .before .before .before .before .before .before .before) in
-    let s = value-starts h a (c .before .before .before .before .before .before .before .before .before .before .loop .inv .1 _ h a) (search needs) (c .before .before .before .before .before .before .begin-value .ensures) .fits .numbers in
+    let p = c .before .before .before .before .before .before .before .before .before in
+    let q = p .before .before in
+    let h = q .before .before .before .before .before .before .pre .1 in
+    let a = split-axis t q in
+    let u = p .before .loop .inv .1 _ h a in
+    let lt = p .loop-test .taken in
+    let s = value-starts h a u lt (c .before .before .before .before .before .before .begin-value .ensures) .fits .numbers in
     search needs
 
 split-stage-requires : (t : ℕ) → split-lts.Need-stage-requires (split-claims t) (split-at t) split.Post split-Inv-loop split-μ-loop
 split-stage-requires t c κs =
-    let h = c .before .before .before .before .before .before .before .before .before .before .before .before .before .before .before .before .before .pre .1 in
-    let a = split-axis t (c .before .before .before .before .before .before .before .before .before .before .before) in
-    let u = c .before .before .before .before .before .before .before .before .before .before .loop .inv .1 _ h a in
-    let lt : c .before .before .before .before .before .before .before .before .before .before .loop .k < getD (c .before .before .before .before .before .before .before .before .before .before .before .before .before .before .before .before .before .args .t3) (c .before .before .before .before .before .before .before .before .before .before .before .before .before .before .lowest .result) 0 = search needs in
+    let p = c .before .before .before .before .before .before .before .before .before in
+    let q = p .before .before in
+    let h = q .before .before .before .before .before .before .pre .1 in
+    let a = split-axis t q in
+    let u = p .before .loop .inv .1 _ h a in
+    let lt = p .loop-test .taken in
     let g = c .before .before .before .before .before .before .begin-value .ensures in
-    (let e = c .before .before .before .before .before .before .before .before .before .before .before .before .before .before .before .before .before .pre .0 in let f = value-fewer h a u lt g in omega arith, value-starts h a u lt g)
+    (let e = q .before .before .before .before .before .before .pre .0 in let f = value-fewer h a u lt g in omega arith, value-starts h a u lt g)
 
 split-mul-uncofactor : (t : ℕ) → split-lts.Need-mul-uncofactor (split-claims t) (split-at t) split.Post split-Inv-loop split-μ-loop
 split-mul-uncofactor t c = let h = c .before .before .before .before .before .before .before .before .before .before .before .before .before .before .before .before .before .before .before .before .before .before .before .pre .1 .left .work in search needs
 
 split-uncofactor-requires : (t : ℕ) → split-lts.Need-uncofactor-requires (split-claims t) (split-at t) split.Post split-Inv-loop split-μ-loop
 split-uncofactor-requires t c κs =
-    let h = c .before .before .before .before .before .before .before .before .before .before .before .before .before .before .before .before .before .before .before .before .before .before .before .pre .1 in
-    let a = split-axis t (c .before .before .before .before .before .before .before .before .before .before .before .before .before .before .before .before .before) in
-    let u = c .before .before .before .before .before .before .before .before .before .before .before .before .before .before .before .before .loop .inv .1 _ h a in
-    let lt : c .before .before .before .before .before .before .before .before .before .before .before .before .before .before .before .before .loop .k < getD (c .before .before .before .before .before .before .before .before .before .before .before .before .before .before .before .before .before .before .before .before .before .before .before .args .t3) (c .before .before .before .before .before .before .before .before .before .before .before .before .before .before .before .before .before .before .before .before .lowest .result) 0 = search needs in
+    let p = c .before .before .before .before .before .before .before .before .before .before .before .before .before .before .before in
+    let q = p .before .before in
+    let h = q .before .before .before .before .before .before .pre .1 in
+    let a = split-axis t q in
+    let u = p .before .loop .inv .1 _ h a in
+    let lt = p .loop-test .taken in
     let g = c .before .before .before .before .before .before .before .before .before .before .before .before .begin-value .ensures in
     let y = c .before .before .before .before .before .stage .ensures in
     (lt, value-spread h a u lt g y (value-back h a u lt g y))
 
 split-end-value-requires : (t : ℕ) → split-lts.Need-end-value-requires (split-claims t) (split-at t) split.Post split-Inv-loop split-μ-loop
 split-end-value-requires t c κs =
-    let h = c .before .before .before .before .before .before .before .before .before .before .before .before .before .before .before .before .before .before .before .before .before .before .before .before .before .before .before .pre .1 in
-    let a = split-axis t (c .before .before .before .before .before .before .before .before .before .before .before .before .before .before .before .before .before .before .before .before .before) in
-    let u = c .before .before .before .before .before .before .before .before .before .before .before .before .before .before .before .before .before .before .before .before .loop .inv .1 _ h a in
-    let lt : c .before .before .before .before .before .before .before .before .before .before .before .before .before .before .before .before .before .before .before .before .loop .k < getD (c .before .before .before .before .before .before .before .before .before .before .before .before .before .before .before .before .before .before .before .before .before .before .before .before .before .before .before .args .t3) (c .before .before .before .before .before .before .before .before .before .before .before .before .before .before .before .before .before .before .before .before .before .before .before .before .lowest .result) 0 = search needs in
+    let p = c .before .before .before .before .before .before .before .before .before .before .before .before .before .before .before .before .before .before .before in
+    let q = p .before .before in
+    let h = q .before .before .before .before .before .before .pre .1 in
+    let a = split-axis t q in
+    let u = p .before .loop .inv .1 _ h a in
+    let lt = p .loop-test .taken in
     gate-room h a u lt (c .before .before .before .before .before .before .before .before .before .before .before .before .before .before .before .before .begin-value .ensures) (c .before .before .before .before .before .before .before .before .before .stage .ensures)
 
 split-add-k : (t : ℕ) → split-lts.Need-add-k (split-claims t) (split-at t) split.Post split-Inv-loop split-μ-loop
 split-add-k t c =
-    let h = c .before .before .before .before .before .before .before .before .before .before .before .before .before .before .before .before .before .before .before .before .before .before .before .before .before .before .before .before .before .before .pre .1 in
-    let a = split-axis t (c .before .before .before .before .before .before .before .before .before .before .before .before .before .before .before .before .before .before .before .before .before .before .before .before) in
-    let lt : c .before .before .before .before .before .before .before .before .before .before .before .before .before .before .before .before .before .before .before .before .before .before .before .loop .k < getD (c .before .before .before .before .before .before .before .before .before .before .before .before .before .before .before .before .before .before .before .before .before .before .before .before .before .before .before .before .before .before .args .t3) (c .before .before .before .before .before .before .before .before .before .before .before .before .before .before .before .before .before .before .before .before .before .before .before .before .before .before .before .lowest .result) 0 = search needs in
-    let f = value-room h a (c .before .before .before .before .before .before .before .before .before .before .before .before .before .before .before .before .before .before .before .before .before .before .before .loop .inv .1 _ h a) lt .few in
+    let p = c .before .before .before .before .before .before .before .before .before .before .before .before .before .before .before .before .before .before .before .before .before .before in
+    let q = p .before .before in
+    let h = q .before .before .before .before .before .before .pre .1 in
+    let a = split-axis t q in
+    let u = p .before .loop .inv .1 _ h a in
+    let lt = p .loop-test .taken in
+    let f = value-room h a u lt .few in
     search needs
 
 split-loop-less : (t : ℕ) → split-lts.Need-loop-less (split-claims t) (split-at t) split.Post split-Inv-loop split-μ-loop
@@ -345,10 +353,11 @@ split-loop-less t c = search needs
 
 split-loop-again : (t : ℕ) → split-lts.Need-loop-again (split-claims t) (split-at t) split.Post split-Inv-loop split-μ-loop
 split-loop-again t c =
-    let lt : c .before .before .before .before .before .before .before .before .before .before .before .before .before .before .before .before .before .before .before .before .before .before .before .loop .k < getD (c .before .before .before .before .before .before .before .before .before .before .before .before .before .before .before .before .before .before .before .before .before .before .before .before .before .before .before .before .before .before .args .t3) (c .before .before .before .before .before .before .before .before .before .before .before .before .before .before .before .before .before .before .before .before .before .before .before .before .before .before .before .lowest .result) 0 = search needs in (
+    let p = c .before .before .before .before .before .before .before .before .before .before .before .before .before .before .before .before .before .before .before .before .before .before in
+    let lt = p .loop-test .taken in (
       omega arith,
       λ ks h a.
-          let u = c .before .before .before .before .before .before .before .before .before .before .before .before .before .before .before .before .before .before .before .before .before .before .before .loop .inv .1 ks h a in
+          let u = p .before .loop .inv .1 ks h a in
           let g = c .before .before .before .before .before .before .before .before .before .before .before .before .before .before .before .before .before .before .before .begin-value .ensures in
           let y = c .before .before .before .before .before .before .before .before .before .before .before .before .stage .ensures in
           turn-more h a u lt g y (value-back h a u lt g y) (c .before .before .before .before .before .before .uncofactor .ensures) (c .before .before .end-value .ensures),
@@ -359,24 +368,28 @@ split-mul-copy t c = let h = c .before .before .before .before .before .before .
 
 split-mul-copy-2 : (t : ℕ) → split-lts.Need-mul-copy-2 (split-claims t) (split-at t) split.Post split-Inv-loop split-μ-loop
 split-mul-copy-2 t c =
-    let h = c .before .before .before .before .before .before .before .before .before .pre .1 .left .own .own in
-    let w = c .before .before .before .before .before .before .before .before .before .pre .1 .left .work in
-    let a = all-cells (c .before .before .before .before .before .before .before .before .before .pre .1) (split-axis t (c .before .before .before)) in
+    let q = c .before .before .before in
+    let p = q .before .before .before .before .before .before .pre .1 in
+    let h = p .left .own .own in
+    let w = p .left .work in
+    let a = all-cells p (split-axis t q) in
     search needs
 
 split-copy-requires : (t : ℕ) → split-lts.Need-copy-requires (split-claims t) (split-at t) split.Post split-Inv-loop split-μ-loop
 split-copy-requires t c κs =
-    let h = c .before .before .before .before .before .before .before .before .before .pre .1 in
-    let a = split-axis t (c .before .before .before) in
+    let q = c .before .before .before in
+    let h = q .before .before .before .before .before .before .pre .1 in
+    let a = split-axis t q in
     let l = c .before .before .loop .inv .0 in
     copy-room h a (c .before .before .loop .inv .1 _ h a) (omega arith)
 
 split-returns : (t : ℕ) → split-lts.Need-returns (split-claims t) (split-at t) split.Post split-Inv-loop split-μ-loop
 split-returns t c =
-    let h = c .before .before .before .before .before .before .before .before .before .before .before .before .pre .1 in
-    let a = split-axis t (c .before .before .before .before .before .before) in
-    let l = c .before .before .before .before .before .loop .inv .0 in
-    split-whole h a (c .before .before .before .before .before .loop .inv .1 _ h a) (omega arith) (c .before .before .copy .ensures)
+    let q = c .before .before .before .before .before .before in
+    let h = q .before .before .before .before .before .before .pre .1 in
+    let a = split-axis t q in
+    let l = c .before .before .before .before .before .loop in
+    split-whole h a (l .inv .1 _ h a) (let m = l .inv .0 in omega arith) (c .before .before .copy .ensures)
 
 split-same-length : (t : ℕ) → split-lts.Need-same-length (split-claims t) (split-at t) split.Post split-Inv-loop split-μ-loop
 split-same-length t c = split-returns t c .len
