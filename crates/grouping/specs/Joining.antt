@@ -5,8 +5,7 @@ use mathlib.Core.List.{List}
 use lib.Dec.{leb}
 use lib.ListN.{length}
 use Rattle.rules.specs.Bytes.{at, all}
-use mathlib.Core.Path.{_≡_}
-use Rattle.rules.specs.Cell.{cells, step, singleton, leastOver}
+use Rattle.rules.specs.Cell.{cells, singleton, leastOver}
 use Rattle.rules.specs.Join.{maxExists}
 use Rattle.rules.specs.Stage.{Stage}
 use Rattle.tables.specs.Part.{part, Shaped}
@@ -16,12 +15,6 @@ pub record Tables (w ks : List ℕ) (a b : ℕ) : Type 0 where
   pub shaped : Shaped ks
   pub first : a + cells ks ≤ length w
   pub second : b + cells ks ≤ length w
-
--- the number of cells, and the steps of two conditions
-pub record Stepped (ks : List ℕ) (i j n stp stp′ : ℕ) : Type 0 where
-  pub count : n ≡ cells ks
-  pub first : stp ≡ step ks i
-  pub second : stp′ ≡ step ks j
 
 -- the stage whose limits stand at low and at high
 abbrev pub stageAt : List ℕ → List ℕ → ℕ → ℕ → Stage

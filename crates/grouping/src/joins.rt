@@ -9,7 +9,7 @@ ghost use lib.Dec.{leb};
 ghost use Rattle.rules.specs.Cell.{cells, singleton};
 ghost use Rattle.tables.specs.Line.{Counts, LineOn, leastOn};
 ghost use Rattle.tables.specs.Part.{part};
-ghost use Rattle.grouping.specs.Joining.{Tables, Stepped, joinsAt, admits};
+ghost use Rattle.grouping.specs.Joining.{Tables, joinsAt, admits};
 
 // Whether some grade is below the one given along both of two lines through cell c.
 fn below_on_both(w: &[u8], table: usize, c: usize, on_i: Along, on_j: Along, grade: u8) -> bool
@@ -46,7 +46,7 @@ pub fn pair_joins(
     low: usize,
     high: usize,
 ) -> bool
-    requires { ⌜ (i < 8) × (j < 8) × Stepped ks i j n «step_i» «step_j» × Tables (now w) ks low high ⌝ }
+    requires { ⌜ Counts ks i n «step_i» × Counts ks j n «step_j» × Tables (now w) ks low high ⌝ }
     ensures { λ r. ⌜ r ≡ joinsAt ks (now (w .entry)) low high (singleton i) (singleton j) ⌝ }
 {
     let mut on_i = lines::first(step_i, ks[i] as usize);

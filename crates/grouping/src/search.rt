@@ -6,7 +6,8 @@ ghost use Prim.Native.Nat.{_<_};
 ghost use mathlib.Core.Path.{_≡_};
 ghost use mathlib.Core.Bool.{_&&_};
 ghost use Rattle.rules.specs.Cell.{cells, present, singleton};
-ghost use Rattle.grouping.specs.Joining.{Tables, Stepped, joinsAt};
+ghost use Rattle.tables.specs.Line.{Counts};
+ghost use Rattle.grouping.specs.Joining.{Tables, joinsAt};
 ghost use Rattle.grouping.specs.Searching.{FirstPair};
 
 // Whether the places have conditions i and j, and the two join.
@@ -21,7 +22,7 @@ fn admits_pair(
     low: usize,
     high: usize,
 ) -> bool
-    requires { ⌜ (i < 8) × (j < 8) × Stepped ks i j n «step_i» «step_j» × Tables (now w) ks low high ⌝ }
+    requires { ⌜ Counts ks i n «step_i» × Counts ks j n «step_j» × Tables (now w) ks low high ⌝ }
     ensures { λ r. ⌜ r ≡ present ks i && (present ks j && joinsAt ks (now (w .entry)) low high (singleton i) (singleton j)) ⌝ }
 {
     if ks[i] < 2 {

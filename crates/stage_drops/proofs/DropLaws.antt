@@ -15,11 +15,11 @@ use Rattle.laws.proofs.LineLaws.{step-pos, step-without}
 use Rattle.laws.proofs.LoopLaws.{step-start, step-le, step-more, drops-next}
 use Rattle.laws.proofs.StageLaws.{drops-shrunk}
 use Rattle.tables.specs.Part.{part, Laid, Shaped}
-use Rattle.tables.specs.Line.{best, lineExtremes}
+use Rattle.tables.specs.Line.{best, lineExtremes, Counts}
 use Rattle.tables.proofs.PartLaws.{part-same, laid-part}
 use Rattle.tables.proofs.OverLaws.{Counted}
 use Rattle.tables.proofs.PackLaws.{packed-cells, packed-over}
-use Rattle.stage_drops.specs.Working.{Room, Trying, frontStage, Turned}
+use Rattle.stage_drops.specs.Working.{Room, frontStage, Turned}
 
 pub fewer-shaped : (t : ℕ) {ks : List ℕ} → Shaped ks → Shaped (without t ks)
 fewer-shaped t {ks} h = let l = without-cells t ks (h .some) in let f = h .few in record { some = without-pos t ks (h .some); few = omega arith }
@@ -145,8 +145,8 @@ pub going-none : {ks w : List ℕ} {c : ℕ} → Room w ks c → Going ks w 0 0 
 going-none {ks} {w} {c} m = record { len = refl; count = m .own; step-is = sym (step-start ks); tried = tried-none ks w }
 
 module _ {ks w : List ℕ} {i : ℕ} {r : List ℕ} {n stp : ℕ} {w′ : List ℕ} where
-  pub going-try : {c : ℕ} → Room w ks c → i < 8 → Going ks w i i r n stp w′ → Trying w′ r i n stp
-  going-try m h g = record { place = h; room = tried-room i m (g .count) (g .tried); step-is = g .step-is }
+  pub going-try : {c : ℕ} → Room w ks c → i < 8 → Going ks w i i r n stp w′ → Counts r i n stp × Room w′ r n
+  going-try m h g = (record { place = h; count = g .count; step-is = g .step-is }, tried-room i m (g .count) (g .tried))
 
   module _ (g : Going ks w i i r n stp w′) (q : Bool) {w″ : List ℕ} (u : Turned (dropOne i) r w′ (cond q (without (singleton i) r) r) w″) where
     -- condition i is dropped, or stays

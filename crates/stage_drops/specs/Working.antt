@@ -5,7 +5,7 @@ use mathlib.Core.List.{List}
 use lib.ListN.{length}
 use Rattle.rules.specs.declared.Gate.{Gate}
 use Rattle.rules.specs.Bytes.{at}
-use Rattle.rules.specs.Cell.{cells, step}
+use Rattle.rules.specs.Cell.{cells}
 use Rattle.rules.specs.Join.{uA, uB, exchangeFor}
 use Rattle.rules.specs.Limits.{Limits}
 use Rattle.rules.specs.Stage.{Stage}
@@ -17,12 +17,6 @@ pub record Room (w ks : List ℕ) (c : ℕ) : Type 0 where
   pub shaped : Shaped ks
   pub own : c ≡ cells ks
   pub room : 8 * c ≤ length w
-
--- condition i is looked at, and its step is known
-pub record Trying (w ks : List ℕ) (i c stp : ℕ) : Type 0 where
-  pub place : i < 8
-  pub room : Room w ks c
-  pub step-is : stp ≡ step ks i
 
 -- the stage over the places ks whose limits are the front of the buffer
 abbrev pub frontStage : List ℕ → List ℕ → Stage

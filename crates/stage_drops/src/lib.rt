@@ -8,7 +8,8 @@ ghost use mathlib.Core.Path.{_≡_};
 ghost use mathlib.Core.Bool.{cond};
 ghost use Rattle.rules.specs.Cell.{cells, singleton, without};
 ghost use Rattle.rules.specs.Stage.{outside, merged, fits, dropOne, left};
-ghost use Rattle.stage_drops.specs.Working.{Room, Trying, frontStage, Turned};
+ghost use Rattle.tables.specs.Line.{Counts};
+ghost use Rattle.stage_drops.specs.Working.{Room, frontStage, Turned};
 
 // What a stage has left: its places, and how many cells these have.
 pub struct Left {
@@ -18,7 +19,7 @@ pub struct Left {
 
 // The stage without condition i, under the limits that are left when it is dropped.
 fn drop_condition(w: &mut [u8], ks: [u8; PLACES], i: usize, n: usize, step: usize)
-    requires { ⌜ Trying (now w) ks i n step ⌝ }
+    requires { ⌜ Counts ks i n step × Room (now w) ks n ⌝ }
     ensures { λ _. ⌜ Turned (λ x. outside (singleton i) x (merged i x)) ks (now (w .entry)) (without (singleton i) ks) (now (w .exit)) ⌝ }
 {
     let card = ks[i] as usize;
@@ -29,7 +30,7 @@ fn drop_condition(w: &mut [u8], ks: [u8; PLACES], i: usize, n: usize, step: usiz
 
 // Whether condition i can be dropped: no lower grade is above the least upper grade over it.
 fn can_drop(w: &[u8], ks: [u8; PLACES], i: usize, n: usize, step: usize) -> bool
-    requires { ⌜ Trying (now w) ks i n step ⌝ }
+    requires { ⌜ Counts ks i n step × Room (now w) ks n ⌝ }
     ensures { λ r. ⌜ r ≡ fits ks (merged i (frontStage ks (now (w .entry)))) ⌝ }
 {
     let mut on = lines::first(step, ks[i] as usize);
@@ -44,7 +45,7 @@ fn can_drop(w: &[u8], ks: [u8; PLACES], i: usize, n: usize, step: usize) -> bool
 
 // Drops condition i if that may be: whether it was.
 fn drop_if_possible(w: &mut [u8], ks: [u8; PLACES], i: usize, n: usize, step: usize) -> bool
-    requires { ⌜ Trying (now w) ks i n step ⌝ }
+    requires { ⌜ Counts ks i n step × Room (now w) ks n ⌝ }
     ensures { λ r. ⌜ Turned (dropOne i) ks (now (w .entry)) (cond r (without (singleton i) ks) ks) (now (w .exit)) ⌝ }
 {
     if ks[i] < 2 {

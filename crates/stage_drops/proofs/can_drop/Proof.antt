@@ -32,22 +32,22 @@ loop-holds c = let s = c .before .before .args in (search needs, λ ks x. scan-n
 
 -- the walk at its first cell
 begun : (c : tie.After-first Inv-loop μ-loop) → let s = c .before .before .args in Begins (s .t2) (s .i) (s .n) (c .first .result)
-begun c = let b = c .before .before in begins (b .pre .room .shaped) (b .pre .room .own) (search needs) (b .pre .step-is) (c .first .ensures)
+begun c = let b = c .before .before in begins (b .pre .1 .shaped) (b .pre .1 .own) (search needs) (b .pre .0 .step-is) (c .first .ensures)
 
 -- where the loop is
 at-cell : (c : tie.In-loop Inv-loop μ-loop) → let s = c .before .before .before .before .args in let l = c .before .loop in Scan (s .t2) (s .i) (dropCell (s .w .now) (s .t2) (s .i) (s .n)) (l .c) (l .on)
 at-cell c = c .before .loop .inv .1 (c .before .before .before .before .args .t2) (begun (c .before .before))
 
 inside : (c : tie.In-loop Inv-loop μ-loop) → c .before .loop .c < cells (c .before .before .before .before .args .t2)
-inside c = let e = c .before .before .before .before .pre .room .own in omega arith
+inside c = let e = c .before .before .before .before .pre .1 .own in omega arith
 
 shared-slice-read-below-at : tie.Need-shared-slice-read-below-at Inv-loop μ-loop
-shared-slice-read-below-at c = let r = c .before .before .before .before .before .pre .room .room in omega arith
+shared-slice-read-below-at c = let r = c .before .before .before .before .before .pre .1 .room in omega arith
 
 below-at-requires : tie.Need-below-at-requires Inv-loop μ-loop
 below-at-requires c κs =
     let t = c .before in
-    let p = t .before .before .before .before .pre .room in
+    let p = t .before .before .before .before .pre .1 in
     walks-line (p .shaped) (at-cell t .walks) _ _ (let e = p .own in let r = p .room in omega arith) (inside t)
 
 returns : tie.Need-returns Inv-loop μ-loop
@@ -56,13 +56,13 @@ returns c =
     let b = t .before .before .before .before in
     let s = b .args in
     drop-failed (s .w .now) (s .t2) (s .i) (s .n) (t .before .loop .c) (inside t)
-    (sym (drop-at (s .w .now) (s .t2) (s .i) (s .n) (b .pre .room .shaped) (at-cell t .walks) (inside t)) ∙ test-refuses (c .before .below-at .ensures) (c .if1 .taken))
-    ∙ limits-at (s .t2) (s .w .now) (s .i) (b .pre .room .own)
+    (sym (drop-at (s .w .now) (s .t2) (s .i) (s .n) (b .pre .1 .shaped) (at-cell t .walks) (inside t)) ∙ test-refuses (c .before .below-at .ensures) (c .if1 .taken))
+    ∙ limits-at (s .t2) (s .w .now) (s .i) (b .pre .1 .own)
 
 next-requires : tie.Need-next-requires Inv-loop μ-loop
 next-requires c κs =
     let t = c .before .before .before in
-    walks-room (t .before .before .before .before .pre .room .shaped) (at-cell t .walks)
+    walks-room (t .before .before .before .before .pre .1 .shaped) (at-cell t .walks)
 
 add-c : tie.Need-add-c Inv-loop μ-loop
 add-c c = search needs
@@ -88,7 +88,7 @@ returns-2 : tie.Need-returns-2 Inv-loop μ-loop
 returns-2 c =
     let b = c .before .before .before .before in
     let s = b .args in
-    let e = b .pre .room .own in
+    let e = b .pre .1 .own in
     drop-passed (s .w .now) (s .t2) (s .i) (s .n) (omega arith) (c .before .loop .inv .1 (s .t2) (begun (c .before .before)) .passed)
     ∙ limits-at (s .t2) (s .w .now) (s .i) e
 

@@ -21,10 +21,10 @@ cast-card c = search needs
 
 -- what is counted
 counts : (c : lts.Start (pack-blocks-reads.Asked, pack-blocks-reads.Learnt) reads.Pre reads.Post) → let s = c .args in Counted (s .t2) (s .i) (s .step) (getD (s .t2) (s .i) 0) (s .n / (s .step * getD (s .t2) (s .i) 0))
-counts c = let p = c .pre in counted (c .args .t2) (c .args .i) _ _ _ (p .room .shaped .some) (search needs) (p .step-is) refl (p .room .own)
+counts c = let p = c .pre in counted (c .args .t2) (c .args .i) _ _ _ (p .1 .shaped .some) (search needs) (p .0 .step-is) refl (p .1 .own)
 
 mul-count : tie.Need-mul-count
-mul-count c = let few = c .before .pre .room .shaped .few in omega (arith, counts (c .before) .low)
+mul-count c = let few = c .before .pre .1 .shaped .few in omega (arith, counts (c .before) .low)
 
 div-count : tie.Need-div-count
 div-count c = counts (c .before) .size
@@ -32,16 +32,16 @@ div-count c = counts (c .before) .size
 pack-blocks-requires : tie.Need-pack-blocks-requires
 pack-blocks-requires c κs =
     let b = c .before .before in
-    let p = b .pre .room in
+    let p = b .pre .1 in
     (counted-blocks _ _ (p .shaped .some) (counts b) (let e = p .own in let r = p .room in omega arith), search needs)
 
 mul-pack-blocks : tie.Need-mul-pack-blocks
-mul-pack-blocks c = let b = c .before .before .before .before .before .before in let few = b .pre .room .shaped .few in omega (arith, packed-low (counts b))
+mul-pack-blocks c = let b = c .before .before .before .before .before .before in let few = b .pre .1 .shaped .few in omega (arith, packed-low (counts b))
 
 pack-blocks-requires-2 : tie.Need-pack-blocks-requires-2
 pack-blocks-requires-2 c κs =
     let b = c .before .before .before .before .before .before in
-    let p = b .pre .room in
+    let p = b .pre .1 in
     let e = p .own in
     (counted-blocks _ _ (p .shaped .some) (counts b) (let l = c .before .before .before .pack-blocks .ensures .len in let r = p .room in omega arith), omega (arith, packed-low (counts b)))
 
@@ -51,7 +51,7 @@ same-length c = search needs
 returns : tie.Need-returns
 returns c =
     let b = c .before .before .before .before .before .before .before .before .before in
-    both-packed (b .pre .room) (search needs) (counts b) (c .before .before .before .before .before .before .pack-blocks .ensures) (c .before .before .pack-blocks2 .ensures)
+    both-packed (b .pre .1) (search needs) (counts b) (c .before .before .before .before .before .before .pack-blocks .ensures) (c .before .before .pack-blocks2 .ensures)
 
 pub drop-condition-spec : {M : Type 1} → statement M
 drop-condition-spec =

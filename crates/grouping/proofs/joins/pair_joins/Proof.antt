@@ -42,17 +42,17 @@ loop-holds c = let s = c .before .before .before .args in (search needs, λ ks x
 
 -- both walks at their first cell
 one : (c : tie.After-first2 Inv-loop μ-loop) → let s = c .before .before .before .args in Begins (s .t2) (s .i) (s .n) (c .before .first .result)
-one c = let b = c .before .before .before in begins (b .pre .3 .shaped) (b .pre .2 .count) (search needs) (b .pre .2 .first) (c .before .first .ensures)
+one c = let b = c .before .before .before in begins (b .pre .2 .shaped) (b .pre .0 .count) (search needs) (b .pre .0 .step-is) (c .before .first .ensures)
 
 other : (c : tie.After-first2 Inv-loop μ-loop) → let s = c .before .before .before .args in Begins (s .t2) (s .j) (s .n) (c .first2 .result)
-other c = let b = c .before .before .before in begins (b .pre .3 .shaped) (b .pre .2 .count) (search needs) (b .pre .2 .second) (c .first2 .ensures)
+other c = let b = c .before .before .before in begins (b .pre .2 .shaped) (b .pre .0 .count) (search needs) (b .pre .1 .step-is) (c .first2 .ensures)
 
 -- where the loop is
 at-cell : (c : tie.In-loop Inv-loop μ-loop) → let s = c .before .before .before .before .before .args in let l = c .before .loop in Scan (s .t2) (s .i) (pairCell (s .w .now) (s .t2) (s .i) (s .j) (s .low) (s .high)) (l .c) (l .on-i) × Walks (s .t2) (s .j) (l .c) (l .on-j)
 at-cell c = c .before .loop .inv .1 (c .before .before .before .before .before .args .t2) (one (c .before .before)) (other (c .before .before))
 
 inside : (c : tie.In-loop Inv-loop μ-loop) → c .before .loop .c < cells (c .before .before .before .before .before .args .t2)
-inside c = let e = c .before .before .before .before .before .pre .2 .count in omega arith
+inside c = let e = c .before .before .before .before .before .pre .0 .count in omega arith
 
 add-below-on-both : tie.Need-add-below-on-both Inv-loop μ-loop
 add-below-on-both c = search needs
@@ -62,7 +62,7 @@ shared-slice-read-below-on-both c = search needs
 
 below-on-both-requires : tie.Need-below-on-both-requires Inv-loop μ-loop
 below-on-both-requires c κs =
-    let p = c .before .before .before .before .before .before .pre .3 in
+    let p = c .before .before .before .before .before .before .pre .2 in
     let a = at-cell (c .before) in
     (walks-line (p .shaped) (a .0 .walks) _ _ (p .second) (inside (c .before)), walks-line (p .shaped) (a .1) _ _ (p .second) (inside (c .before)))
 
@@ -74,17 +74,17 @@ returns c =
     let k = t .before .loop .c in
     let a = at-cell t in
     pair-failed (s .w .now) (s .t2) (s .i) (s .j) (s .low) (s .high) k (inside t)
-    (sym (pair-at (s .w .now) (s .t2) (s .i) (s .j) (s .low) (s .high) (b .pre .3 .shaped) (a .0 .walks) (a .1) (inside t)) ∙ test-refuses (c .before .below-on-both .ensures) (c .if1 .taken))
+    (sym (pair-at (s .w .now) (s .t2) (s .i) (s .j) (s .low) (s .high) (b .pre .2 .shaped) (a .0 .walks) (a .1) (inside t)) ∙ test-refuses (c .before .below-on-both .ensures) (c .if1 .taken))
 
 next-requires : tie.Need-next-requires Inv-loop μ-loop
 next-requires c κs =
     let t = c .before .before .before in
-    walks-room (t .before .before .before .before .before .pre .3 .shaped) (at-cell t .0 .walks)
+    walks-room (t .before .before .before .before .before .pre .2 .shaped) (at-cell t .0 .walks)
 
 next-requires-2 : tie.Need-next-requires-2 Inv-loop μ-loop
 next-requires-2 c κs =
     let t = c .before .before .before .before in
-    walks-room (t .before .before .before .before .before .pre .3 .shaped) (at-cell t .1)
+    walks-room (t .before .before .before .before .before .pre .2 .shaped) (at-cell t .1)
 
 add-c : tie.Need-add-c Inv-loop μ-loop
 add-c c = search needs
@@ -112,7 +112,7 @@ returns-2 : tie.Need-returns-2 Inv-loop μ-loop
 returns-2 c =
     let b = c .before .before .before .before .before in
     let s = b .args in
-    let e = b .pre .2 .count in
+    let e = b .pre .0 .count in
     pair-passed (s .w .now) (s .t2) (s .i) (s .j) (s .low) (s .high) (omega arith) (c .before .loop .inv .1 (s .t2) (one (c .before .before)) (other (c .before .before)) .0 .passed)
 
 pub pair-joins-spec : {M : Type 1} → statement M

@@ -54,7 +54,8 @@ loop-holds c =
 
 admits-pair-requires : tie.Need-admits-pair-requires Inv-loop μ-loop Inv-search μ-search
 admits-pair-requires c κs =
-    (search needs, search needs, record { count = c .before .before .before .before .before .before .pre .0; first = c .before .before .before .before .search .inv .1; second = c .before .loop .inv .1 }, c .before .before .before .before .before .before .pre .1)
+    let p = c .before .before .before .before .before .before .pre in
+    (record { place = search needs; count = p .0; step-is = c .before .before .before .before .search .inv .1 }, record { place = search needs; count = p .0; step-is = c .before .loop .inv .1 }, p .1)
 
 array-read-step-j : tie.Need-array-read-step-j Inv-loop μ-loop Inv-search μ-search
 array-read-step-j c = search needs
