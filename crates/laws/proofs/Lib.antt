@@ -7,6 +7,7 @@ pub mod AcceptLaws
 pub mod ByteLaws
 pub mod CellLaws
 pub mod CompiledLaws
+pub mod DepthLaws
 pub mod FuelLaws
 pub mod FunctionLaws
 pub mod GateLaws

@@ -27,12 +27,12 @@ run-append : (v : ℕ → ℕ) (done : List ℕ) (xs ys : List Record) → run v
 run-append v done [] ys = refl
 run-append v done (x ∷ xs) ys = run-append v (done ++ (recordGrade v done x ∷ [])) xs ys
 
-place : (xs ys : List ℕ) (x : ℕ) (zs : List ℕ) (k : ℕ) → length xs + length ys ≡ k → getD ((xs ++ (ys ++ (x ∷ []))) ++ zs) k 0 ≡ x
+pub place : (xs ys : List ℕ) (x : ℕ) (zs : List ℕ) (k : ℕ) → length xs + length ys ≡ k → getD ((xs ++ (ys ++ (x ∷ []))) ++ zs) k 0 ≡ x
 place xs ys x zs k e =
     let p : (xs ++ (ys ++ (x ∷ []))) ++ zs ≡ (xs ++ ys) ++ (x ∷ zs) = simp append-assoc in
     rw p (getD-at (xs ++ ys) x zs 0 k (length-append xs ys ∙ e))
 
-place-last : (xs ys : List ℕ) (x : ℕ) (k : ℕ) → length xs + length ys ≡ k → getD (xs ++ (ys ++ (x ∷ []))) k 0 ≡ x
+pub place-last : (xs ys : List ℕ) (x : ℕ) (k : ℕ) → length xs + length ys ≡ k → getD (xs ++ (ys ++ (x ∷ []))) k 0 ≡ x
 place-last xs ys x k e = rw (← (append-assoc xs ys (x ∷ []))) (getD-at (xs ++ ys) x [] 0 k (length-append xs ys ∙ e))
 
 -- what running a tree's records from `done` gives

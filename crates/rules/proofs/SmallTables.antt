@@ -1,5 +1,6 @@
 -- The small tables hold: antt computes both sides of every row.
 use mathlib.Core.Path.{refl}
+use Rattle.rules.specs.SmallForecasts.{Forecasts}
 use Rattle.rules.specs.Small.{Small}
 use Rattle.rules.specs.SmallListings.{SmallListings}
 
@@ -11,3 +12,6 @@ small-tables =
 pub small-listings : SmallListings
 small-listings =
     (refl, refl, refl, refl, refl, refl, refl, refl, refl, refl, refl, refl, refl, refl, refl, refl, refl, refl, refl, refl, refl, refl, refl, refl)
+
+pub forecasts : Forecasts
+forecasts = (refl, refl, refl, refl, refl, refl, refl, refl, refl, refl, refl, refl, refl, refl, refl, refl)

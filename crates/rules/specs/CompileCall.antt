@@ -17,10 +17,14 @@ use Rattle.rules.specs.Demands.{compiledRecords}
 abbrev pub mostRecords : ℕ → ℕ
 mostRecords c = pick (eqb c 1) 1 (3 * c - 5)
 
--- row 10, by lengths: a byte for each of c cells in both limit buffers, sixteen for each in the work buffer, sixteen for each of the most
--- records in the network buffer
+-- the bytes of work for a table of c cells
+abbrev pub compileWork : ℕ → ℕ
+compileWork c = 16 * c
+
+-- row 10, by lengths: a byte for each of c cells in both limit buffers, the work, sixteen bytes for each of the most records in the network
+-- buffer
 abbrev pub compileRoom : ℕ → ℕ → ℕ → ℕ → ℕ → Bool
-compileRoom c lower upper work network = roomy c (lower ∷ upper ∷ []) && (leb (16 * c) work && leb (16 * mostRecords c) network)
+compileRoom c lower upper work network = roomy c (lower ∷ upper ∷ []) && (leb (compileWork c) work && leb (16 * mostRecords c) network)
 
 -- a table's limits: those that the lent buffers hold for its cells, which may be fewer than the bytes lent
 abbrev pub lentLimits : List ℕ → List ℕ → List ℕ → Limits

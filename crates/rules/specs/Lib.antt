@@ -1,5 +1,6 @@
--- The rules of document 01 as definitions. A reader holds each against the section of 01 that its comment names; docs/RULES.md and
--- docs/FORMAT.md give the same rules in words. Where a definition is a term of the field, its comment says which one.
+-- The rules of document 01, and of the requests that came after it, as definitions. A reader holds each against the section or the request
+-- that its comment names; docs/RULES.md and docs/FORMAT.md give the same rules in words. Where a definition is a term of the field, its comment
+-- says which one.
 pub mod Refusal
 pub mod Verdict
 pub mod Bytes
@@ -14,6 +15,8 @@ pub mod Tree
 pub mod Stage
 pub mod Demands
 pub mod CompileCall
+pub mod Forecast
 pub mod Small
+pub mod SmallForecasts
 pub mod Listing
 pub mod SmallListings

@@ -1,5 +1,5 @@
 -- A network as a tree, before its records are numbered: what a stage gives.
-use Prim.Native.Nat.{ℕ, _+_, _-_}
+use Prim.Native.Nat.{ℕ, suc, _+_, _-_, max}
 use mathlib.Core.List.{List, [], _∷_, _++_}
 use lib.ListN.{getD}
 use Rattle.rules.specs.declared.Gate.{Gate}
@@ -22,6 +22,12 @@ abbrev pub size : Tree → ℕ
 size (fixed q) = 1
 size (lookup i gs) = 1
 size (gated op a b) = size a + size b + 1
+
+-- the depth of gates under its root
+abbrev pub treeDepth : Tree → ℕ
+treeDepth (fixed q) = 0
+treeDepth (lookup i gs) = 0
+treeDepth (gated op a b) = suc (max (treeDepth a) (treeDepth b))
 
 -- its records, the first of them numbered r: the left tree's, the right tree's, then the gate over their last records
 abbrev pub records : Tree → ℕ → List Record
