@@ -202,7 +202,7 @@ pub fn all() -> Vec<Case> {
         compile("monks 2", None, monks_2()),
         compile("8 2⁷, 90 % don't-cares, m 4", None, sparse(&LARGEST, 4)),
         compile("8 8 8 2, 90 % don't-cares, m 4", None, sparse(&[8, 8, 8, 2], 4)),
-        compile("8 2⁷, drawn table 37,019, m 11", None, drawn(37_019)),
+        compile("8 2⁷, drawn table 21,194, m 7", None, drawn(21_194)),
         compile("4 4 2⁶, drawn table 34,189, m 14", None, drawn(34_189)),
     ];
     let growing = [("2⁴", 4), ("2⁵", 5), ("2⁶", 6), ("2⁷", 7), ("2⁸", 8)].map(|(name, count)| (name, vec![2; count]));

@@ -89,8 +89,8 @@ What one call costs in the proved library, and in plain safe Rust that answers t
 - Instructions are counted by callgrind, and are the same in every run with the same compilers.
 - Times are in microseconds, the least in one run, on a machine that does other work as well.
 {ratios}- A table is named by its cardinalities and what it holds: 8 2⁷ is a condition of eight values and seven of two, 1,024 cells.
-  m is the number of grades. A parity table splits at every stage. The drawn tables took longest, each of its shape,
-  of some 280,000 that `bench/run search 60` drew; by instructions, others of the slowest come up to a tenth higher.
+  m is the number of grades. A parity table splits at every stage. The drawn tables are among the slowest, each of its
+  shape, of some 280,000 that `bench/run search 60` drew and timed.
 - Compilers: `{rust}` for the plain one, `{rattle}` for the library.
 
 {heading}{table}
