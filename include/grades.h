@@ -96,21 +96,24 @@ extern "C" {
 /*
  * The bytes that a call asks for; one byte less is refused. For a table of
  * any shape take cells as GRADES_MAX_CELLS. The second uses cells twice.
- *   GRADES_COMPILE_WORK_BYTES     work of grades_compile
+ *   GRADES_COMPILE_WORK_BYTES     work of grades_compile and grades_forecast
  *   GRADES_COMPILE_NETWORK_BYTES  network of grades_compile
+ *   GRADES_DEPTH_BYTES            depth of grades_forecast
  *   GRADES_RUN_WORK_BYTES         work of grades_check and grades_evaluate
  */
 #define GRADES_COMPILE_WORK_BYTES(cells) (16u * (cells))
 #define GRADES_COMPILE_NETWORK_BYTES(cells) \
     (16u * ((cells) == 1u ? 1u : 3u * (cells) - 5u))
+#define GRADES_DEPTH_BYTES 2
 #define GRADES_RUN_WORK_BYTES(network_bytes) ((network_bytes) / 16u)
 
 /*
  * Stack: a call takes fewer bytes than these, with its arguments and its
  * return address. What memset and memcpy take, and the loader when it binds
  * them, comes on top.
- *   GRADES_RUN_STACK_BYTES   grades_check and grades_evaluate
- *   GRADES_JOIN_STACK_BYTES  each of the four joins
+ *   GRADES_RUN_STACK_BYTES      grades_check and grades_evaluate
+ *   GRADES_COMPILE_STACK_BYTES  grades_compile and grades_forecast
+ *   GRADES_JOIN_STACK_BYTES     each of the four joins
  */
 #define GRADES_READ_STACK_BYTES 1024
 #define GRADES_RUN_STACK_BYTES 5120
@@ -244,6 +247,25 @@ uint32_t grades_compile(const uint8_t *shape, size_t shape_bytes,
                         const uint8_t *upper, size_t upper_bytes,
                         uint8_t *work, size_t work_bytes,
                         uint8_t *network, size_t network_bytes);
+
+/*
+ * Forecasts a table's network, so that its room is known before compiling:
+ * writes how deep gates stand under the last record that grades_compile would
+ * write, and answers how many records these would be. No network is lent.
+ *
+ * work: GRADES_COMPILE_WORK_BYTES(cells), as for grades_compile; any contents.
+ * They hold anything after an answer that is no refusal.
+ * depth: GRADES_DEPTH_BYTES, low byte first. The depth of a constant and of a
+ * literal is 0, that of a gate one more than of the deeper of its two records.
+ *
+ * Answers the number of records, 1 to GRADES_MAX_COMPILED_RECORDS. Refusals:
+ * SHAPE; BUFFER, for limits, work or depth; LIMITS.
+ */
+uint32_t grades_forecast(const uint8_t *shape, size_t shape_bytes,
+                         const uint8_t *lower, size_t lower_bytes,
+                         const uint8_t *upper, size_t upper_bytes,
+                         uint8_t *work, size_t work_bytes,
+                         uint8_t *depth, size_t depth_bytes);
 
 /*
  * Checks a network, whoever made it, against a table's limits.

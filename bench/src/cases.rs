@@ -3,7 +3,7 @@
 use crate::report::grouped;
 use calls::plain::Plain;
 use calls::tables::OwnedTable;
-use calls::{Calls, Gate, Limits, Sets};
+use calls::{Calls, Gate, Limits, Sets, Table};
 
 /// Makes the call once and gives its answer.
 pub type Call = Box<dyn FnMut(&dyn Calls) -> u32>;
@@ -130,14 +130,28 @@ fn join(name: &str, table: OwnedTable, gate: Gate, sets: Sets, second: bool) -> 
     Case { name: format!("join {name}"), growth: None, prepare: Box::new(prepare) }
 }
 
+/// Prepares a call that has a work buffer and writes to one of so many bytes.
+fn with_work(
+    table: OwnedTable,
+    bytes: usize,
+    call: impl Fn(&dyn Calls, Table, &mut [u8], &mut [u8]) -> u32 + Copy + 'static,
+) -> Box<dyn Fn() -> Call> {
+    Box::new(move || {
+        let table = table.clone();
+        let (mut work, mut written) = (vec![0; 16 * table.cells()], vec![0; bytes]);
+        Box::new(move |calls| call(calls, table.lent(), &mut work, &mut written))
+    })
+}
+
 pub fn compile(name: &str, line: Option<&'static str>, table: OwnedTable) -> Case {
     let cells = table.cells();
-    let prepare = move || -> Call {
-        let table = table.clone();
-        let (mut work, mut network) = (vec![0; 16 * cells], vec![0; 16 * (3 * cells - 5)]);
-        Box::new(move |calls| calls.compile(table.lent(), &mut work, &mut network))
-    };
-    Case { name: format!("compile {name}"), growth: line.map(|line| (line, cells)), prepare: Box::new(prepare) }
+    let prepare = with_work(table, 16 * (3 * cells - 5), |calls, table, work, to| calls.compile(table, work, to));
+    Case { name: format!("compile {name}"), growth: line.map(|line| (line, cells)), prepare }
+}
+
+fn forecast(name: &str, table: OwnedTable) -> Case {
+    let prepare = with_work(table, 2, |calls, table, work, to| calls.forecast(table, work, to));
+    Case { name: format!("forecast {name}"), growth: None, prepare }
 }
 
 /// Two constants, and then literals and gates, each gate naming the two records before it.
@@ -188,6 +202,41 @@ fn joinable() -> OwnedTable {
     function(&[8, 8, 8, 2], 16, |v| (v[0].max(v[1])).min(2 * v[2].max(v[3])) as usize)
 }
 
+/// The tables that are compiled: each with a name, and with the line of the plot that it belongs to.
+fn compiled() -> Vec<(String, Option<&'static str>, OwnedTable)> {
+    let mut tables = [
+        ("8 2⁷ random, m 16", random(&LARGEST, 16)),
+        ("8 8 8 2 sum mod 16", function(&[8, 8, 8, 2], 16, sum)),
+        ("8 8 8 2 that joins", joinable()),
+        ("monks 2", monks_2()),
+        ("8 2⁷, 90 % don't-cares, m 4", sparse(&LARGEST, 4)),
+        ("8 8 8 2, 90 % don't-cares, m 4", sparse(&[8, 8, 8, 2], 4)),
+        ("8 2⁷, drawn table 21,194, m 7", drawn(21_194)),
+        ("4 4 2⁶, drawn table 34,189, m 14", drawn(34_189)),
+    ]
+    .map(|(name, table)| (name.to_string(), None, table))
+    .to_vec();
+    let growing = [("2⁴", 4), ("2⁵", 5), ("2⁶", 6), ("2⁷", 7), ("2⁸", 8)].map(|(name, count)| (name, vec![2; count]));
+    let largest = [("4 2⁷", 4), ("8 2⁷", 8)].map(|(name, first)| (name, [&[first], &LARGEST[1..]].concat()));
+    for (name, cards) in growing.into_iter().chain(largest) {
+        tables.push((format!("{name} parity"), Some("parity, m 2"), parity(&cards)));
+        tables.push((format!("{name} random, m 4"), Some("random, m 4"), random(&cards, 4)));
+    }
+    tables
+}
+
+/// Those of them that are forecast as well.
+const FORECAST: [&str; 8] = [
+    "8 8 8 2 that joins",
+    "monks 2",
+    "8 2⁷, 90 % don't-cares, m 4",
+    "8 2⁷, drawn table 21,194, m 7",
+    "2⁴ parity",
+    "2⁶ random, m 4",
+    "8 2⁷ parity",
+    "8 2⁷ random, m 4",
+];
+
 pub fn all() -> Vec<Case> {
     let halves = Sets { s: 0b0011, t: 0b1100 };
     let mut cases = vec![
@@ -196,21 +245,14 @@ pub fn all() -> Vec<Case> {
         join("first block, 1,024 cells", joinable(), Gate::Min, halves, false),
         join("second block, 1,024 cells", joinable(), Gate::Min, halves, true),
         join("that does not exist, 1,024 cells", parity(&LARGEST), Gate::Max, halves, false),
-        compile("8 2⁷ random, m 16", None, random(&LARGEST, 16)),
-        compile("8 8 8 2 sum mod 16", None, function(&[8, 8, 8, 2], 16, sum)),
-        compile("8 8 8 2 that joins", None, joinable()),
-        compile("monks 2", None, monks_2()),
-        compile("8 2⁷, 90 % don't-cares, m 4", None, sparse(&LARGEST, 4)),
-        compile("8 8 8 2, 90 % don't-cares, m 4", None, sparse(&[8, 8, 8, 2], 4)),
-        compile("8 2⁷, drawn table 21,194, m 7", None, drawn(21_194)),
-        compile("4 4 2⁶, drawn table 34,189, m 14", None, drawn(34_189)),
     ];
-    let growing = [("2⁴", 4), ("2⁵", 5), ("2⁶", 6), ("2⁷", 7), ("2⁸", 8)].map(|(name, count)| (name, vec![2; count]));
-    let largest = [("4 2⁷", 4), ("8 2⁷", 8)].map(|(name, first)| (name, [&[first], &LARGEST[1..]].concat()));
-    for (name, cards) in growing.into_iter().chain(largest) {
-        cases.push(compile(&format!("{name} parity"), Some("parity, m 2"), parity(&cards)));
-        cases.push(compile(&format!("{name} random, m 4"), Some("random, m 4"), random(&cards, 4)));
-    }
+    let compiled = compiled();
+    cases.extend(compiled.iter().map(|(name, line, table)| compile(name, *line, table.clone())));
+    cases.extend(FORECAST.map(|name| {
+        let of_name = compiled.iter().find(|(other, ..)| other == name);
+        let (_, _, table) = of_name.expect("a table that is forecast is compiled");
+        forecast(name, table.clone())
+    }));
     cases.extend([1024, 2048, 4096].map(evaluate));
     cases.extend([check("monks 2", monks_2()), check("8 2⁷ parity", parity(&LARGEST))]);
     cases

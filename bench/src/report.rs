@@ -24,6 +24,16 @@ fn ratio(figures: &[f64]) -> Option<f64> {
     if let [library, plain] = figures { Some(library / plain) } else { None }
 }
 
+/// The greatest of some ratios, each with what it is of.
+fn greatest<T>(ratios: impl Iterator<Item = (f64, T)>) -> Option<(f64, T)> {
+    ratios.max_by(|(one, _), (two, _)| one.total_cmp(two))
+}
+
+/// Lines as items of a list.
+fn items(lines: &str) -> String {
+    lines.lines().map(|line| format!("- {line}\n")).collect()
+}
+
 /// A whole number with a comma after each third digit.
 pub fn grouped(count: f64) -> String {
     let digits = format!("{count:.0}");
@@ -63,18 +73,31 @@ impl Report {
     /// The greatest ratio of instructions and the greatest of times, each with its call.
     pub fn worst(&self) -> String {
         let worst = |unit: &str, of: fn(&Row) -> &[f64]| {
-            let ratios = self.rows.iter().filter_map(|row| Some((ratio(of(row))?, &row.name)));
-            let worst = ratios.max_by(|(one, _), (two, _)| one.total_cmp(two));
+            let worst = greatest(self.rows.iter().filter_map(|row| Some((ratio(of(row))?, &row.name))));
             worst.map_or(String::new(), |(ratio, name)| format!("Worst ratio of {unit}: {ratio:.2}, {name}.\n"))
         };
         worst("instructions", |row| &row.counts) + &worst("times", |row| &row.times)
     }
 
+    /// The forecast that takes most of what compiling the same table takes, with the first implementation.
+    pub fn forecasts(&self) -> String {
+        let compile = |table: &str| self.rows.iter().find(|row| row.name.strip_prefix("compile ") == Some(table));
+        let most = greatest(self.rows.iter().filter_map(|row| {
+            let table = row.name.strip_prefix("forecast ")?;
+            let (forecast, compile) = (row.counts[0], compile(table)?.counts[0]);
+            Some((forecast / compile, (forecast, compile, table)))
+        }));
+        most.map_or(String::new(), |(_, (forecast, compile, table))| {
+            let (forecast, compile, name) = (grouped(forecast), grouped(compile), self.names[0]);
+            let figures = format!("{forecast} to {compile} instructions, {name}");
+            format!("Worst ratio of a forecast to compiling its table: {figures}, {table}.\n")
+        })
+    }
+
     pub fn document(&self) -> String {
         let table: String = self.rows.iter().map(|row| self.shown(row)).collect();
-        let heading = self.heading();
-        let worst: String = self.worst().lines().map(|line| format!("- {line}\n")).collect();
-        let ratios = match &worst[..] {
+        let (heading, forecasts) = (self.heading(), items(&self.forecasts()));
+        let ratios = match &items(&self.worst())[..] {
             "" => String::new(),
             worst => format!("- A ratio is the library's figure divided by the plain one's.\n{worst}"),
         };
@@ -88,7 +111,7 @@ What one call costs in the proved library, and in plain safe Rust that answers t
 
 - Instructions are counted by callgrind, and are the same in every run with the same compilers.
 - Times are in microseconds, the least in one run, on a machine that does other work as well.
-{ratios}- A table is named by its cardinalities and what it holds: 8 2⁷ is a condition of eight values and seven of two, 1,024 cells.
+{ratios}{forecasts}- A table is named by its cardinalities and what it holds: 8 2⁷ is a condition of eight values and seven of two, 1,024 cells.
   m is the number of grades. A parity table splits at every stage. The drawn tables are among the slowest, each of its
   shape, of some 280,000 that `bench/run search 60` drew and timed.
 - Compilers: `{rust}` for the plain one, `{rattle}` for the library.

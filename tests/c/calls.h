@@ -1,5 +1,5 @@
 /*
- * The eight calls, each over a list of its buffers in the order of its
+ * The nine calls, each over a list of its buffers in the order of its
  * parameters, so that a test can go through calls and buffers alike.
  */
 #ifndef CALLS_H
@@ -51,6 +51,11 @@ static uint32_t join_min_second_lent(const struct lent *lent)
 static uint32_t compile_lent(const struct lent *lent)
 {
     return grades_compile(LENT(0), LENT(1), LENT(2), LENT(3), LENT(4));
+}
+
+static uint32_t forecast_lent(const struct lent *lent)
+{
+    return grades_forecast(LENT(0), LENT(1), LENT(2), LENT(3), LENT(4));
 }
 
 static uint32_t check_lent(const struct lent *lent)

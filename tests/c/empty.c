@@ -120,12 +120,13 @@ static void joining_second(const char *name, lent_call *call, const uint8_t *tab
     expect_each(name, call, 0);
 }
 
-static void compiling(void)
+/* Compiling and a forecast, alike but for what they write. */
+static void compiling(const char *name, lent_call *call, const char *written, size_t bytes)
 {
     lend_table(odd);
     lend("work", NULL, GRADES_COMPILE_WORK_BYTES(CELLS), GRADES_REFUSED_BUFFER);
-    lend("network", NULL, GRADES_COMPILE_NETWORK_BYTES(CELLS), GRADES_REFUSED_BUFFER);
-    expect_each("compile", compile_lent, 7);
+    lend(written, NULL, bytes, GRADES_REFUSED_BUFFER);
+    expect_each(name, call, 7);
 }
 
 /* No network asks for no work, so that an empty one is refused for itself. */
@@ -160,7 +161,8 @@ int main(void)
     joining_first("join_min_first", join_min_first_lent, both);
     joining_second("join_max_second", join_max_second_lent, either);
     joining_second("join_min_second", join_min_second_lent, both);
-    compiling();
+    compiling("compile", compile_lent, "network", GRADES_COMPILE_NETWORK_BYTES(CELLS));
+    compiling("forecast", forecast_lent, "depth", GRADES_DEPTH_BYTES);
     checking();
     evaluating();
     return checked("empty");

@@ -1,8 +1,8 @@
 /*
- * The whole library, on tables of four cells: reads, compiles, checks and
- * evaluates table E of document 01, joins where it can be done, and asks each
- * call for its refusals. Each call is held to its answer, and to every byte of
- * the buffers that it may write.
+ * The whole library, on tables of four cells and one of eight: reads,
+ * forecasts, compiles, checks and evaluates table E of document 01, joins where
+ * it can be done, and asks each call for its refusals. Each call is held to its
+ * answer, and to every byte of the buffers that it may write.
  */
 #include "check.h"
 
@@ -11,7 +11,7 @@ static const uint8_t not_grades[CELLS] = {0, 0, 0, 2};
 static const uint8_t of_second[CELLS] = {0, 0, 1, 1};
 
 /* Buffers to write: each is longer than a call asks for. */
-static uint8_t shape[16], lower[16], upper[16], work[128], network[256];
+static uint8_t shape[16], lower[16], upper[16], work[160], network[256], depth[16];
 
 static void fill_buffers(void)
 {
@@ -20,6 +20,7 @@ static void fill_buffers(void)
     memset(upper, FILL, sizeof upper);
     memset(work, FILL, sizeof work);
     memset(network, FILL, sizeof network);
+    memset(depth, FILL, sizeof depth);
 }
 
 /* The bytes wanted stand at the front of a buffer, and nothing behind them has changed. */
@@ -38,6 +39,7 @@ static void check_refused(const char *name, uint32_t answer, uint32_t wanted)
     check_front(name, upper, sizeof upper, "", 0);
     check_front(name, work, sizeof work, "", 0);
     check_front(name, network, sizeof network, "", 0);
+    check_front(name, depth, sizeof depth, "", 0);
 }
 
 /* Reading. */
@@ -182,6 +184,67 @@ static void compiling(void)
                      grades_evaluate(network, parity_bytes, square, 10, work, 7, cell), odd[cell]);
 }
 
+/* A forecast. No network is lent. */
+
+static uint32_t forecast(const uint8_t *of, size_t shape_bytes, const uint8_t *low,
+                         const uint8_t *high, size_t limit_bytes, size_t work_bytes,
+                         size_t depth_bytes)
+{
+    fill_buffers();
+    return grades_forecast(of, shape_bytes, low, limit_bytes, high, limit_bytes, work, work_bytes,
+                           depth, depth_bytes);
+}
+
+/* A table with one grade for each cell; in a depth buffer as long as asked, and in a longer one. */
+static void expect_forecast(const char *name, const uint8_t *of, const uint8_t *table, size_t cells,
+                            uint32_t records, uint8_t deepest)
+{
+    const uint8_t wanted[GRADES_DEPTH_BYTES] = {deepest, 0};
+    const size_t work_bytes = GRADES_COMPILE_WORK_BYTES(cells);
+    size_t depth_bytes;
+
+    for (depth_bytes = sizeof wanted; depth_bytes <= sizeof depth;
+         depth_bytes += sizeof depth - sizeof wanted) {
+        check_answer(name, forecast(of, 10, table, table, cells, work_bytes, depth_bytes), records);
+        check_front(name, depth, sizeof depth, wanted, sizeof wanted);
+        check(all_filled(work + work_bytes, work + sizeof work), name,
+              "work bytes changed that must stay");
+        check(all_filled(network, network + sizeof network), name, "a network was written");
+    }
+}
+
+static void forecasting(void)
+{
+    static const uint8_t cube[GRADES_SHAPE_BYTES] = {3, 2, 2, 2, 0, 0, 0, 0, 0, 2};
+    static const uint8_t odd_of_three[8] = {0, 1, 1, 0, 1, 0, 0, 1};
+    static const uint8_t always[CELLS] = {1, 1, 1, 1};
+
+    expect_forecast("E", square, odd, CELLS, 7, 2);
+    expect_forecast("parity of three", cube, odd_of_three, 8, 19, 4);
+    expect_forecast("a max of two literals", square, either, CELLS, 3, 1);
+    expect_forecast("a min of two literals", square, both, CELLS, 3, 1);
+    expect_forecast("a literal", square, of_first, CELLS, 1, 0);
+    expect_forecast("a constant", square, always, CELLS, 1, 0);
+
+    check_refused("nine bytes of shape", forecast(square, 9, odd, odd, CELLS, 64, 2),
+                  GRADES_REFUSED_SHAPE);
+    check_refused("three limits", forecast(square, 10, odd, odd, CELLS - 1, 64, 2),
+                  GRADES_REFUSED_BUFFER);
+    check_refused("a work byte too few", forecast(square, 10, odd, odd, CELLS, 63, 2),
+                  GRADES_REFUSED_BUFFER);
+    check_refused("one byte for the depth", forecast(square, 10, odd, odd, CELLS, 64, 1),
+                  GRADES_REFUSED_BUFFER);
+    check_refused("limits in disorder", forecast(square, 10, either, odd, CELLS, 64, 2),
+                  GRADES_REFUSED_LIMITS);
+    /* Of two faults, the one that is tested for first. */
+    check_refused("nine bytes of shape, no other bytes", forecast(square, 9, either, odd, 0, 0, 0),
+                  GRADES_REFUSED_SHAPE);
+    check_refused("limits in disorder, a work byte too few",
+                  forecast(square, 10, either, odd, CELLS, 63, 2), GRADES_REFUSED_BUFFER);
+    check_refused("limits in disorder, one byte for the depth",
+                  forecast(square, 10, either, odd, CELLS, 64, 1), GRADES_REFUSED_BUFFER);
+}
+
 /* Checking E's network. */
 
 static uint32_t check_table(size_t network_bytes, size_t shape_bytes, const uint8_t *limits,
@@ -218,6 +281,7 @@ int main(void)
     joining(&joins[0]);
     joining(&joins[1]);
     compiling();
+    forecasting();
     checking();
     return checked("panel");
 }

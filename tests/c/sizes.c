@@ -10,6 +10,8 @@ static uint8_t network[GRADES_COMPILE_NETWORK_BYTES(MOST_CELLS) + RECORD];
 
 static uint8_t work[GRADES_COMPILE_WORK_BYTES(MOST_CELLS)];
 
+static uint8_t depth[GRADES_DEPTH_BYTES];
+
 /* A shape, by a network of one constant at a cell. */
 static void expect_shape(const char *name, uint32_t cell, uint32_t wanted)
 {
@@ -76,7 +78,7 @@ static void files(void)
                  GRADES_REFUSED_FILE_LENGTH);
 }
 
-/* Compiling and checking with exactly the bytes that they ask for. */
+/* Compiling, a forecast and checking with exactly the bytes that they ask for. */
 
 static uint32_t compile(size_t work_bytes, size_t network_bytes)
 {
@@ -85,13 +87,44 @@ static uint32_t compile(size_t work_bytes, size_t network_bytes)
                           network, network_bytes);
 }
 
+static uint32_t forecast(size_t work_bytes, size_t depth_bytes)
+{
+    return grades_forecast(shape, sizeof shape, lower, cells, upper, cells, work, work_bytes, depth,
+                           depth_bytes);
+}
+
+static unsigned two_bytes(const uint8_t *low)
+{
+    return low[0] + 256u * low[1];
+}
+
+/* The depth of the last of some records, from those of the records before it. */
+static unsigned depth_of_last(uint32_t records)
+{
+    /* One for each number that a gate can name. */
+    static unsigned depths[65536];
+    unsigned last = 0;
+    uint32_t at;
+
+    for (at = 0; at < records; at++) {
+        const uint8_t *record = network + (size_t)at * RECORD;
+        last = 0;
+        if (record[0] >= 2) {
+            unsigned left = depths[two_bytes(record + 4)], right = depths[two_bytes(record + 6)];
+            last = 1 + (left < right ? right : left);
+        }
+        depths[at] = last;
+    }
+    return last;
+}
+
 static uint32_t check_network(size_t network_bytes, size_t work_bytes)
 {
     return grades_check(network, network_bytes, shape, sizeof shape, lower, cells, upper, cells,
                         work, work_bytes);
 }
 
-/* Compiles the parity of the shape's values, and answers the number of records. */
+/* Compiles and forecasts the parity of the shape's values, and answers the number of records. */
 static uint32_t expect_compiled(void)
 {
     const size_t work_bytes = GRADES_COMPILE_WORK_BYTES(cells);
@@ -113,6 +146,11 @@ static uint32_t expect_compiled(void)
     check_answer(name, check_network(bytes, GRADES_RUN_WORK_BYTES(bytes)), 0);
     check_answer(name, check_network(bytes, GRADES_RUN_WORK_BYTES(bytes) - 1),
                  GRADES_REFUSED_BUFFER);
+    sprintf(name, "forecast %u cells", (unsigned)cells);
+    check_answer(name, forecast(work_bytes - 1, GRADES_DEPTH_BYTES), GRADES_REFUSED_BUFFER);
+    check_answer(name, forecast(work_bytes, GRADES_DEPTH_BYTES - 1), GRADES_REFUSED_BUFFER);
+    check_answer(name, forecast(work_bytes, GRADES_DEPTH_BYTES), records);
+    check_answer(name, two_bytes(depth), depth_of_last(records));
     return records;
 }
 

@@ -22,10 +22,20 @@ static struct {
     {"join_min_first", join_min_first_lent, GRADES_JOIN_STACK_BYTES, 0},
     {"join_min_second", join_min_second_lent, GRADES_JOIN_STACK_BYTES, 0},
     {"compile", compile_lent, GRADES_COMPILE_STACK_BYTES, 0},
+    {"forecast", forecast_lent, GRADES_COMPILE_STACK_BYTES, 0},
     {"check", check_lent, GRADES_RUN_STACK_BYTES, 0},
     {"evaluate", evaluate_lent, GRADES_RUN_STACK_BYTES, 0},
 };
-enum { READ, JOIN_MAX, JOIN_MIN = JOIN_MAX + 2, COMPILE = JOIN_MIN + 2, CHECK, EVALUATE, CALLS };
+enum {
+    READ,
+    JOIN_MAX,
+    JOIN_MIN = JOIN_MAX + 2,
+    COMPILE = JOIN_MIN + 2,
+    FORECAST,
+    CHECK,
+    EVALUATE,
+    CALLS
+};
 
 /* A call that changes the lowest quarter of the stack may have gone past it. */
 #define SPARE 16384
@@ -94,6 +104,7 @@ static uint32_t measure(size_t i, const struct lent *lent)
 
 static uint8_t work[GRADES_COMPILE_WORK_BYTES(MOST_CELLS)];
 static uint8_t network[GRADES_MAX_RECORDS * RECORD];
+static uint8_t depth[GRADES_DEPTH_BYTES];
 static uint8_t read_shape[GRADES_SHAPE_BYTES];
 static uint8_t first_lower[MOST_CELLS], first_upper[MOST_CELLS];
 static uint8_t second_lower[MOST_CELLS], second_upper[MOST_CELLS];
@@ -155,8 +166,11 @@ static uint32_t compiling(void)
 {
     struct lent lent[] = {
         {WHOLE(shape)}, {WHOLE(lower)}, {WHOLE(upper)}, {WHOLE(work)}, {WHOLE(network)}};
+    static const struct lent in_place_of_network = {WHOLE(depth)};
     uint32_t records = measure(COMPILE, lent);
 
+    lent[4] = in_place_of_network;
+    check_answer("forecast", measure(FORECAST, lent), records);
     running((size_t)records * RECORD);
     return records;
 }

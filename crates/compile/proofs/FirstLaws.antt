@@ -1,11 +1,11 @@
 -- The first stage of a table, in the work buffer.
-use Prim.Native.Nat.{ℕ, _+_, _-_, _*_, _≤_, _<_, max}
+use Prim.Native.Nat.{ℕ, _+_, _*_, _≤_, _<_}
 use mathlib.Core.Path.{_≡_, refl, sym, _∙_, ap, ap₂, subst}
 use mathlib.Core.Bool.{true, _&&_}
 use mathlib.Core.List.{List, [], _∷_, _++_}
 use native.Mathlib.Nat.{zero-add}
 use native.Mathlib.Omega.{arith}
-use lib.Dec.{T, leb, leb→le, eqb, eqb→eq}
+use lib.Dec.{T, leb, leb→le}
 use lib.ListN.{length, take, drop, length-append, length-drop}
 use lib.Seq.{length-take-le, getD-take, getD-drop, drop-append-seam, ext-getD}
 use Rattle.rules.specs.Bytes.{at}
@@ -15,9 +15,9 @@ use Rattle.rules.specs.Verdict.{roomy}
 use Rattle.rules.specs.Tree.{Tree, size, records}
 use Rattle.rules.specs.Stage.{Stage, treeOf, wholeTable, compiled}
 use Rattle.rules.specs.Demands.{Table}
-use Rattle.rules.specs.CompileCall.{mostRecords, compileRoom, lentLimits}
-use Rattle.laws.proofs.CellLaws.{cells-pos}
-use Rattle.laws.proofs.TestLaws.{and-l, and-r, pick-ok, by-order, passes}
+use Rattle.rules.specs.CompileCall.{tableRoom, lentLimits}
+use Rattle.laws.proofs.TestLaws.{and-l, and-r, passes}
+use Rattle.laws.proofs.DepthLaws.{tree-depth}
 use Rattle.laws.proofs.ByteLaws.{length-networkBytes}
 use Rattle.laws.proofs.TreeLaws.{length-records}
 use Rattle.laws.proofs.SizeLaws.{compiled-size}
@@ -25,28 +25,26 @@ use Rattle.tables.specs.Part.{part, Laid}
 use Rattle.tables.proofs.PartLaws.{part-at, part-length, laid-front}
 use Rattle.grouping.specs.Joining.{stageAt}
 use Rattle.stage_drops.specs.Working.{Proper}
-use Rattle.stages.specs.Staging.{Written, Fits, Starts}
+use Rattle.stage_steps.specs.declared.gates.Extent.{Extent}
+use Rattle.stages.specs.Staging.{Written, Numbered, Starts}
 use Rattle.shape.specs.declared.Shape.{Shape}
 use Rattle.shape.specs.Shapes.{placesOf}
 use Rattle.compile.specs.Compiling.{Accepted, Recorded}
 use Rattle.compile.proofs.RowLaws.{table}
 
 -- row 10, buffer by buffer
-pub record Roomy (c : ℕ) (lower upper work network : ℕ) : Type 0 where
+pub record Roomy (c : ℕ) (lower upper work : ℕ) : Type 0 where
   pub low : c ≤ lower
   pub high : c ≤ upper
   pub work-room : 16 * c ≤ work
-  pub network-room : 16 * mostRecords c ≤ network
 
-pub roomy-means : (c lower upper work network : ℕ) → T (compileRoom c lower upper work network) → Roomy c lower upper work network
-roomy-means c lower upper work network h =
-    let a = and-l (roomy c (lower ∷ upper ∷ [])) (leb (16 * c) work && leb (16 * mostRecords c) network) h in
-    let b = and-r (roomy c (lower ∷ upper ∷ [])) (leb (16 * c) work && leb (16 * mostRecords c) network) h in
+pub roomy-means : (c lower upper work : ℕ) → T (tableRoom c lower upper work) → Roomy c lower upper work
+roomy-means c lower upper work h =
+    let a = and-l (roomy c (lower ∷ upper ∷ [])) (leb (16 * c) work) h in
     record {
       low = leb→le c lower (and-l (leb c lower) (leb c upper && true) a);
       high = leb→le c upper (and-l (leb c upper) true (and-r (leb c lower) (leb c upper && true) a));
-      work-room = leb→le (16 * c) work (and-l (leb (16 * c) work) (leb (16 * mostRecords c) network) b);
-      network-room = leb→le (16 * mostRecords c) network (and-r (leb (16 * c) work) (leb (16 * mostRecords c) network) b);
+      work-room = leb→le (16 * c) work (and-r (roomy c (lower ∷ upper ∷ [])) (leb (16 * c) work) h);
     }
 
 -- a table at a, within the first e bytes of a buffer
@@ -79,16 +77,7 @@ drop-same e w w′ l h =
     ext-getD 0 (drop e w′) (drop e w) (length-drop e w′ ∙ omega (arith, length-drop e w))
     (λ k lt. getD-drop e w′ k 0 ∙ h (e + k) (omega arith) ∙ sym (getD-drop e w k 0))
 
--- the most records are few, and enough for a tree within the bound of demand 3
-pub most-few : (c : ℕ) → 1 ≤ c → mostRecords c ≤ 3 * c
-most-few c h = pick-ok (λ (q : ℕ). q ≤ 3 * c) (eqb c 1) 1 (3 * c - 5) (λ t. omega arith) (λ n. omega arith)
-
-most-is : (s c : ℕ) → 1 ≤ c → s ≤ max 1 (3 * c - 5) → s ≤ mostRecords c
-most-is s c some h =
-    pick-ok (λ (q : ℕ). s ≤ q) (eqb c 1) 1 (3 * c - 5) (λ t. let e = eqb→eq c 1 t in omega arith)
-    (λ n. by-order c 1 (λ le. let e : 1 ≡ c = omega arith in absurd (n (subst (λ (k : ℕ). T (eqb k 1)) e tt))) (λ lt. omega arith))
-
-module _ (shape : Shape) (lower upper work network : List ℕ) (ok : Accepted shape lower upper work network) where
+module _ (shape : Shape) (lower upper work : List ℕ) (ok : Accepted shape lower upper (length work)) where
   abbrev ks : List ℕ
   ks = placesOf shape
 
@@ -98,17 +87,11 @@ module _ (shape : Shape) (lower upper work network : List ℕ) (ok : Accepted sh
   abbrev tree : Tree
   tree = compiled ks (shape .m) l
 
-  rooms : Roomy (cells ks) (length lower) (length upper) (length work) (length network)
-  rooms = roomy-means (cells ks) (length lower) (length upper) (length work) (length network) (passes (ok .room))
+  rooms : Roomy (cells ks) (length lower) (length upper) (length work)
+  rooms = roomy-means (cells ks) (length lower) (length upper) (length work) (passes (ok .room))
 
   lent : Table ks (shape .m) l
-  lent = table shape lower upper work network ok
-
-  all-fit : 16 * size tree ≤ length network
-  all-fit =
-      let h : size tree ≤ mostRecords (cells ks) = most-is (size tree) (cells ks) (cells-pos ks (lent .positive)) (compiled-size ks (shape .m) l (lent .positive)) in
-      let r = rooms .network-room in
-      omega arith
+  lent = table shape lower upper ok
 
   module _ {v w : List ℕ} (low : Laid work 0 (part lower 0 (cells ks)) (cells ks) v) (high : Laid v (cells ks) (part upper 0 (cells ks)) (cells ks) w) where
     same : stageAt ks (take (16 * cells ks) w) 0 (cells ks) ≡ wholeTable ks l
@@ -117,7 +100,7 @@ module _ (shape : Shape) (lower upper work network : List ℕ) (ok : Accepted sh
     lent-length : length (take (16 * cells ks) w) ≡ 16 * cells ks
     lent-length = length-take-le (16 * cells ks) w (let r = rooms .work-room in let e : length w ≡ length work = high .len ∙ low .len in omega arith)
 
-    starts : Starts (shape .m) ks (cells ks) (take (16 * cells ks) w) network 0
+    starts : Starts (shape .m) ks (cells ks) (take (16 * cells ks) w) 0
     starts =
         record {
           shaped = record { some = lent .positive; few = lent .few-cells };
@@ -125,15 +108,12 @@ module _ (shape : Shape) (lower upper work network : List ℕ) (ok : Accepted sh
           few = lent .few-values;
           work = let e = lent-length in omega arith;
           proper = subst (Proper (shape .m)) (sym same) (record { some = let g = lent .grades in omega arith; ordered = lent .ordered; top = lent .top });
-          fits =
-              subst (λ (x : Stage). Fits (treeOf (shape .m) x) network 0) (sym same)
-              (record {
-                numbers = let h = compiled-size ks (shape .m) l (lent .positive) in let g = lent .few-cells in omega arith;
-                room = let h = all-fit in let z = zero-add (size tree) in omega arith;
-              });
+          numbers =
+              subst (λ (x : Stage). Numbered (treeOf (shape .m) x) 0) (sym same)
+              (let h = compiled-size ks (shape .m) l (lent .positive) in let g = lent .few-cells in omega arith);
         }
 
-    module _ {e : ℕ} {w′ net′ : List ℕ} (done : Written ks (treeOf (shape .m) (stageAt ks (take (16 * cells ks) w) 0 (cells ks))) (take (16 * cells ks) w) network 0 e w′ net′) where
+    module _ {network : List ℕ} {e : Extent} {w′ net′ : List ℕ} (done : Written ks (treeOf (shape .m) (stageAt ks (take (16 * cells ks) w) 0 (cells ks))) (take (16 * cells ks) w) network 0 e w′ net′) where
       here : Written ks tree (take (16 * cells ks) w) network 0 e w′ net′
       here = subst (λ (x : Stage). Written ks (treeOf (shape .m) x) (take (16 * cells ks) w) network 0 e w′ net′) same done
 
@@ -143,8 +123,9 @@ module _ (shape : Shape) (lower upper work network : List ℕ) (ok : Accepted sh
           let long : length w ≡ length work = high .len ∙ low .len in
           let count : length (records tree 0) ≡ size tree = length-records tree 0 in
           record {
-            count = here .count ∙ zero-add (size tree) ∙ sym count;
-            bytes = laid-front (here .put .bytes) (let h = all-fit in omega arith) (length-networkBytes (records tree 0));
+            count = here .put .extent .next ∙ zero-add (size tree) ∙ sym count;
+            depth = here .put .extent .depth ∙ sym (tree-depth tree);
+            bytes = λ fit. laid-front (here .put .put .bytes (let z = zero-add (length (records tree 0)) in omega arith)) fit (length-networkBytes (records tree 0));
             kept =
                 record {
                   long = length-append w′ (drop (16 * cells ks) w) ∙ (let r = rooms .work-room in omega (arith, length-drop (16 * cells ks) w));
@@ -156,12 +137,12 @@ module _ (shape : Shape) (lower upper work network : List ℕ) (ok : Accepted sh
           }
 
 -- the same for the number of cells and the places that the code reads off the shape
-module _ (shape : Shape) (lower upper work network : List ℕ) (ok : Accepted shape lower upper work network) (n : ℕ) (count : n ≡ cells (placesOf shape)) where
+module _ (shape : Shape) (lower upper work : List ℕ) (ok : Accepted shape lower upper (length work)) (n : ℕ) (count : n ≡ cells (placesOf shape)) where
   pub few : n ≤ 1024
-  few = let h = lent shape lower upper work network ok .few-cells in omega arith
+  few = let h = lent shape lower upper work ok .few-cells in omega arith
 
   pub rooms-by : (n ≤ length lower) × (n ≤ length upper) × (16 * n ≤ length work)
-  rooms-by = let r = rooms shape lower upper work network ok in (let h = r .low in omega arith, let h = r .high in omega arith, let h = r .work-room in omega arith)
+  rooms-by = let r = rooms shape lower upper work ok in (let h = r .low in omega arith, let h = r .high in omega arith, let h = r .work-room in omega arith)
 
   module _ {v w : List ℕ} (low : Laid work 0 (part lower 0 n) n v) (high : Laid v n (part upper 0 n) n w) (k : List ℕ) (places : k ≡ placesOf shape) where
     low-by : Laid work 0 (part lower 0 (cells (placesOf shape))) (cells (placesOf shape)) v
@@ -170,15 +151,15 @@ module _ (shape : Shape) (lower upper work network : List ℕ) (ok : Accepted sh
     high-by : Laid v (cells (placesOf shape)) (part upper 0 (cells (placesOf shape))) (cells (placesOf shape)) w
     high-by = subst (λ (i : ℕ). Laid v i (part upper 0 i) i w) count high
 
-    pub starts-by : Starts (shape .m) k n (take (16 * n) w) network 0
+    pub starts-by : Starts (shape .m) k n (take (16 * n) w) 0
     starts-by =
-        subst (λ (i : ℕ). Starts (shape .m) k i (take (16 * i) w) network 0) (sym count)
-        (subst (λ (q : List ℕ). Starts (shape .m) q (cells (placesOf shape)) (take (16 * cells (placesOf shape)) w) network 0) (sym places) (starts shape lower upper work network ok low-by high-by))
+        subst (λ (i : ℕ). Starts (shape .m) k i (take (16 * i) w) 0) (sym count)
+        (subst (λ (q : List ℕ). Starts (shape .m) q (cells (placesOf shape)) (take (16 * cells (placesOf shape)) w) 0) (sym places) (starts shape lower upper work ok low-by high-by))
 
-    pub recorded-by : {e : ℕ} {w′ net′ : List ℕ} → Written k (treeOf (shape .m) (stageAt k (take (16 * n) w) 0 (cells k))) (take (16 * n) w) network 0 e w′ net′
+    pub recorded-by : {network : List ℕ} {e : Extent} {w′ net′ : List ℕ} → Written k (treeOf (shape .m) (stageAt k (take (16 * n) w) 0 (cells k))) (take (16 * n) w) network 0 e w′ net′
         → Recorded shape lower upper work network e (w′ ++ drop (16 * n) w) net′
-    recorded-by {e} {w′} {net′} y =
+    recorded-by {network} {e} {w′} {net′} y =
         subst (λ (i : ℕ). Recorded shape lower upper work network e (w′ ++ drop (16 * i) w) net′) (sym count)
-        (recorded shape lower upper work network ok low-by high-by
+        (recorded shape lower upper work ok low-by high-by
         (subst (λ (i : ℕ). Written (placesOf shape) (treeOf (shape .m) (stageAt (placesOf shape) (take (16 * i) w) 0 (cells (placesOf shape)))) (take (16 * i) w) network 0 e w′ net′) count
         (subst (λ (q : List ℕ). Written q (treeOf (shape .m) (stageAt q (take (16 * n) w) 0 (cells q))) (take (16 * n) w) network 0 e w′ net′) places y)))

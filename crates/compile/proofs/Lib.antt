@@ -2,3 +2,4 @@
 pub mod RowLaws
 pub mod FirstLaws
 pub mod CountLaws
+pub mod ForecastLaws

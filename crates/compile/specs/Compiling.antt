@@ -11,10 +11,14 @@ use Rattle.rules.specs.Limits.{limitsOf, limitsSound}
 use Rattle.rules.specs.Verdict.{Verdict, accepted, refused, Answer, granted, denied, answerOf}
 use Rattle.rules.specs.Network.{Record, networkBytes, networkSound, evaluate}
 use Rattle.rules.specs.Demands.{Inside, EveryStage, compiledRecords, Compiled}
-use Rattle.rules.specs.CompileCall.{compileRoom, lentLimits, compileCall}
+use Rattle.rules.specs.CompileCall.{tableRoom, lentLimits, compileCall}
+use Rattle.rules.specs.Forecast.{networkDepth}
 use Rattle.rules.specs.Bytes.{Past}
 use Rattle.shape.specs.declared.Shape.{Shape}
 use Rattle.shape.specs.Shapes.{cardsOf, placesOf, isSound}
+use Rattle.stage_steps.specs.declared.gates.Extent.{Extent}
+use Rattle.compile.specs.declared.Judged.{Judged}
+use Rattle.compile.specs.declared.Judged.the-variants as judged
 use Rattle.compile.specs.declared.CompileAnswer.{CompileAnswer}
 use Rattle.compile.specs.declared.CompileAnswer.the-variants.{Records, Refused}
 
@@ -33,10 +37,18 @@ abbrev pub networkAfter : Verdict (List Record) → List ℕ → List ℕ
 networkAfter (accepted rs) network = networkBytes rs ++ drop (16 * length rs) network
 networkAfter (refused r) network = network
 
--- the rows of document 01 for compiling
+-- the rows of document 01 for compiling, with a work and a network buffer of these lengths
+abbrev pub tableRows : Shape → List ℕ → List ℕ → ℕ → ℕ → Verdict (List Record)
+tableRows shape lower upper work network =
+    compileCall (shape .n) (cardsOf shape) (shape .m) (length lower) (length upper) work network (lentLimits (placesOf shape) lower upper)
+
 abbrev pub compileRows : Shape → List ℕ → List ℕ → List ℕ → List ℕ → Verdict (List Record)
-compileRows shape lower upper work network =
-    compileCall (shape .n) (cardsOf shape) (shape .m) (length lower) (length upper) (length work) (length network) (lentLimits (placesOf shape) lower upper)
+compileRows shape lower upper work network = tableRows shape lower upper (length work) (length network)
+
+-- whether they let a table pass
+abbrev pub judgedAs : Verdict (List Record) → Judged
+judgedAs (accepted rs) = judged.Sound
+judgedAs (refused r) = judged.Refused r
 
 -- the first n records of a buffer, as bytes
 abbrev pub written : ℕ → List ℕ → List ℕ
@@ -64,14 +76,19 @@ pub record Compiles (shape : Shape) (lower upper work network : List ℕ) (answe
   pub kept : Past (16 * cells (placesOf shape)) work work′
   pub keeps-table : (n : ℕ) → answer ≡ Records n → KeepsTable shape lower upper n network′
 
--- a call that no row stops
-pub record Accepted (shape : Shape) (lower upper work network : List ℕ) : Type 0 where
+-- a table that no row stops, with a work buffer of this length
+pub record Accepted (shape : Shape) (lower upper : List ℕ) (work : ℕ) : Type 0 where
   pub shape-sound : isSound shape ≡ true
-  pub room : compileRoom (cells (placesOf shape)) (length lower) (length upper) (length work) (length network) ≡ true
+  pub room : tableRoom (cells (placesOf shape)) (length lower) (length upper) work ≡ true
   pub limits-sound : limitsSound (placesOf shape) (shape .m) (lentLimits (placesOf shape) lower upper) ≡ true
 
--- and what it writes
-pub record Recorded (shape : Shape) (lower upper work network : List ℕ) (n : ℕ) (work′ network′ : List ℕ) : Type 0 where
-  pub count : n ≡ length (compiledRecords (placesOf shape) (shape .m) (lentLimits (placesOf shape) lower upper))
-  pub bytes : network′ ≡ networkAfter (accepted (compiledRecords (placesOf shape) (shape .m) (lentLimits (placesOf shape) lower upper))) network
-  pub kept : Past (16 * cells (placesOf shape)) work work′
+-- its network: how far it reaches, and its bytes in a network buffer that has room for them
+module _ (shape : Shape) (lower upper work network : List ℕ) where
+  abbrev rs : List Record
+  rs = compiledRecords (placesOf shape) (shape .m) (lentLimits (placesOf shape) lower upper)
+
+  pub record Recorded (of : Extent) (work′ network′ : List ℕ) : Type 0 where
+    pub count : of .next ≡ length rs
+    pub depth : of .depth ≡ networkDepth rs
+    pub bytes : 16 * length rs ≤ length network → network′ ≡ networkAfter (accepted rs) network
+    pub kept : Past (16 * cells (placesOf shape)) work work′

@@ -1,2 +1,3 @@
 -- What the contracts of `compile` cite.
 pub mod Compiling
+pub mod Forecasting

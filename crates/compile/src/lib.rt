@@ -1,11 +1,14 @@
-// Compiling a table to its network.
+// Compiling a table to its network, and telling beforehand what that network will have.
 ghost use Prim.Native.Nat.{_≤_};
 ghost use mathlib.Core.Path.{_≡_};
+ghost use lib.ListN.{length};
 ghost use Rattle.rules.specs.CompileCall.{mostRecords, compileRoom};
-ghost use Rattle.compile.specs.Compiling.{Accepted, Recorded, Compiles};
+ghost use Rattle.compile.specs.Compiling.{tableRows, judgedAs, Accepted, Recorded, Compiles};
+ghost use Rattle.compile.specs.Forecasting.{Forecasts};
 use rules::RECORD;
 use rules::Refusal;
 use shape::Shape;
+use stage_steps::gates::Extent;
 use tables::fill;
 use tables::limits;
 
@@ -15,8 +18,23 @@ pub enum CompileAnswer {
     Refused(Refusal),
 }
 
-// The bytes of a record, and those of the work buffer for each cell.
+pub enum ForecastAnswer {
+    // How many records the network has, and the depth of gates under the last one.
+    Figures { records: usize, depth: usize },
+    Refused(Refusal),
+}
+
+// What the rows say of a table.
+enum Judged {
+    Sound,
+    Refused(Refusal),
+}
+
+// The bytes of the work buffer for each cell.
 const WORK: usize = 16;
+
+// The bytes of a network buffer that is long enough for every table: 3,067 records.
+const ENOUGH: usize = 49072;
 
 // Writes the network of a table. The work buffer has 16 bytes for each cell, the network buffer 16
 // for each of the most records that there can be.
@@ -29,18 +47,48 @@ pub fn compile(
 ) -> CompileAnswer
     ensures { λ r. ⌜ Compiles shape (now (lower .entry)) (now (upper .entry)) (now (work .entry)) (now (network .entry)) r (now (work .exit)) (now (network .exit)) ⌝ }
 {
+    match judge(shape, lower, upper, work.len(), network.len()) {
+        Judged::Refused(refusal) => CompileAnswer::Refused(refusal),
+        Judged::Sound => {
+            let of = build(shape, lower, upper, work, network);
+            CompileAnswer::Records(of.next)
+        }
+    }
+}
+
+// What the network of a table will have. The work buffer is that of compiling; the stages are lent a network
+// buffer without a byte, so that they count records and write none.
+pub fn forecast(shape: Shape, lower: &[u8], upper: &[u8], work: &mut [u8]) -> ForecastAnswer
+    ensures { λ r. ⌜ Forecasts shape (now (lower .entry)) (now (upper .entry)) (now (work .entry)) r (now (work .exit)) ⌝ }
+{
+    match judge(shape, lower, upper, work.len(), ENOUGH) {
+        Judged::Refused(refusal) => ForecastAnswer::Refused(refusal),
+        Judged::Sound => {
+            let mut none = [0u8; 0];
+            let of = build(shape, lower, upper, work, &mut none);
+            ForecastAnswer::Figures {
+                records: of.next,
+                depth: of.depth,
+            }
+        }
+    }
+}
+
+// Rows 4, 10 and 5, with the lengths of the work and the network buffer.
+fn judge(shape: Shape, lower: &[u8], upper: &[u8], work: usize, network: usize) -> Judged
+    ensures { λ r. ⌜ r ≡ judgedAs (tableRows shape (now (lower .entry)) (now (upper .entry)) work network) ⌝ }
+{
     if !shape.sound() {
-        return CompileAnswer::Refused(Refusal::ShapeRange);
+        return Judged::Refused(Refusal::ShapeRange);
     }
     let cells = shape.cells();
-    if !has_room(cells, lower.len(), upper.len(), work.len(), network.len()) {
-        return CompileAnswer::Refused(Refusal::ShortBuffer);
+    if !has_room(cells, lower.len(), upper.len(), work, network) {
+        return Judged::Refused(Refusal::ShortBuffer);
     }
-    if !limits::limits_sound(lower, upper, shape.m, cells) {
-        return CompileAnswer::Refused(Refusal::GradeLimits);
+    if limits::limits_sound(lower, upper, shape.m, cells) {
+        return Judged::Sound;
     }
-    let count = write_records(shape, lower, upper, work, network);
-    CompileAnswer::Records(count)
+    Judged::Refused(Refusal::GradeLimits)
 }
 
 fn most_records(cells: usize) -> usize
@@ -67,17 +115,11 @@ fn has_room(cells: usize, lower: usize, upper: usize, work: usize, network: usiz
     RECORD * most_records(cells) <= network
 }
 
-// The records of a table that no row stops. Its limits go to the front of the work buffer, where the
-// first stage finds them.
-fn write_records(
-    shape: Shape,
-    lower: &[u8],
-    upper: &[u8],
-    work: &mut [u8],
-    network: &mut [u8],
-) -> usize
-    requires { ⌜ Accepted shape (now lower) (now upper) (now work) (now network) ⌝ }
-    ensures { λ r. ⌜ Recorded shape (now (lower .entry)) (now (upper .entry)) (now (work .entry)) (now (network .entry)) r (now (work .exit)) (now (network .exit)) ⌝ }
+// The stages of a table that no row stops. Its limits go to the front of the work buffer, where the first stage
+// finds them; its records go to the network buffer, if that has room for all.
+fn build(shape: Shape, lower: &[u8], upper: &[u8], work: &mut [u8], network: &mut [u8]) -> Extent
+    requires { ⌜ Accepted shape (now lower) (now upper) (length (now work)) ⌝ }
+    ensures { λ of. ⌜ Recorded shape (now (lower .entry)) (now (upper .entry)) (now (work .entry)) (now (network .entry)) of (now (work .exit)) (now (network .exit)) ⌝ }
 {
     let cells = shape.cells();
     let end = WORK * cells;

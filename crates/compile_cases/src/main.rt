@@ -2,8 +2,10 @@
 // what it got: the lengths of the two buffers lent; the number of records and the last one's bytes,
 // or the refusal's number; then whether each buffer kept the bytes that the call had to leave: all
 // of them after a refusal, else those past the records and, of the work buffer, those past sixteen
-// for each cell. Both buffers hold 99 everywhere before.
+// for each cell. Both buffers hold 99 everywhere before. Behind that, what a forecast of the same table
+// says, with the same work buffer and no network buffer.
 use compile::CompileAnswer;
+use compile::ForecastAnswer;
 use printing::number;
 use printing::refused;
 use printing::text;
@@ -66,6 +68,21 @@ fn show_answer(answer: CompileAnswer, shape: Shape, work: &[u8], network: &[u8])
     }
 }
 
+fn show_forecast(shape: Shape, lower: &[u8], upper: &[u8], work: &mut [u8]) {
+    text(b"; forecast ");
+    match compile::forecast(shape, lower, upper, work) {
+        ForecastAnswer::Refused(refusal) => {
+            refused(refusal);
+            show_kept(b", work", work, 0);
+        }
+        ForecastAnswer::Figures { records, depth } => {
+            show_number(b"records ", records);
+            show_number(b", depth ", depth);
+            show_kept(b", work", work, shape.cells());
+        }
+    }
+}
+
 fn compile_into(
     name: &[u8],
     shape: Shape,
@@ -80,6 +97,7 @@ fn compile_into(
     text(b": ");
     let answer = compile::compile(shape, lower, upper, work, network);
     show_answer(answer, shape, work, network);
+    show_forecast(shape, lower, upper, work);
     text(b"\n");
 }
 

@@ -1,5 +1,5 @@
 -- The depth of a tree's network is the tree's; a forecast stops where compiling does.
-use Prim.Native.Nat.{ℕ, suc, _+_, _-_, _*_, max}
+use Prim.Native.Nat.{ℕ, suc, _+_, _-_, _*_, _<_, max}
 use mathlib.Core.Path.{_≡_, refl, _∙_, ap, ap₂}
 use mathlib.Core.Bool.{Bool, true, false, _&&_}
 use mathlib.Core.List.{List, [], _∷_, _++_, append-assoc}
@@ -11,11 +11,11 @@ use Rattle.rules.specs.declared.Refusal.the-variants.{ShapeRange, GradeLimits, 
 use Rattle.rules.specs.Cell.{cells}
 use Rattle.rules.specs.Shape.{places, shapeSound}
 use Rattle.rules.specs.Limits.{Limits, limitsSound}
-use Rattle.rules.specs.Verdict.{accepted, unless, andThen, roomy}
+use Rattle.rules.specs.Verdict.{accepted, unless, andThen}
 use Rattle.rules.specs.Network.{Record, gate}
 use Rattle.rules.specs.Tree.{Tree, fixed, lookup, gated, treeDepth, size, records}
 use Rattle.rules.specs.Demands.{compiledRecords}
-use Rattle.rules.specs.CompileCall.{compileWork, mostRecords}
+use Rattle.rules.specs.CompileCall.{mostRecords, tableRoom}
 use Rattle.rules.specs.Forecast.{recordDepth, depths, networkDepth, forecastOf, Foretold}
 use Rattle.laws.proofs.RunLaws.{place, place-last}
 
@@ -78,9 +78,15 @@ unfolding deeper
 tree-depth n =
     rw (depths-records n [] 0 refl) (place-last [] (innerDepths n) (treeDepth n) _ (omega (arith, length-innerDepths n, length-deeper n [])))
 
+-- fewer gates than records lie above one another
+pub depth-size : (n : Tree) → treeDepth n < size n
+depth-size (fixed q) = omega arith
+depth-size (lookup i gs) = omega arith
+depth-size (gated op a b) = omega (arith, depth-size a, depth-size b)
+
 pub foretold : (n : ℕ) (cards : List ℕ) (m lower upper work : ℕ) (l : Limits) → Foretold n cards m lower upper work l
 foretold n cards m lower upper work l network h =
-    go (shapeSound n cards m) (roomy c (lower ∷ upper ∷ [])) (leb (compileWork c) work) (leb (16 * mostRecords c) network) (limitsSound ks m l) (le→leb _ _ h)
+    go (shapeSound n cards m) (tableRoom c lower upper work) (leb (16 * mostRecords c) network) (limitsSound ks m l) (λ t. le→leb _ _ (h t))
   where
     ks : List ℕ
     ks = places cards
@@ -91,12 +97,11 @@ foretold n cards m lower upper work l network h =
     rs : List Record
     rs = compiledRecords ks m l
 
-    go : (a b d e f : Bool) → T e
-        → unless a ShapeRange (unless (b && d) ShortBuffer (unless f GradeLimits (accepted (forecastOf rs))))
-        ≡ andThen (unless a ShapeRange (unless (b && (d && e)) ShortBuffer (unless f GradeLimits (accepted rs)))) (λ xs. accepted (forecastOf xs))
-    go false b d e f t = refl
-    go true false d e f t = refl
-    go true true false e f t = refl
-    go true true true false f t = absurd t
-    go true true true true false t = refl
-    go true true true true true t = refl
+    go : (a b d e : Bool) → (T a → T d)
+        → unless a ShapeRange (unless b ShortBuffer (unless e GradeLimits (accepted (forecastOf rs))))
+        ≡ andThen (unless a ShapeRange (unless (b && d) ShortBuffer (unless e GradeLimits (accepted rs)))) (λ xs. accepted (forecastOf xs))
+    go false b d e t = refl
+    go true false d e t = refl
+    go true true false e t = absurd (t tt)
+    go true true true false t = refl
+    go true true true true t = refl

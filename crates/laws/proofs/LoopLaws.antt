@@ -2,7 +2,7 @@
 use Prim.Native.Nat.{ℕ, zero, suc, _+_, _-_, _*_, _/_, _%_, _≤_, _<_}
 use mathlib.Core.Path.{_≡_, refl, sym, _∙_, ap, ap₂, subst}
 use mathlib.Core.Bool.{Bool, true, _&&_}
-use mathlib.Core.List.{List, [], _∷_, _++_, append-assoc}
+use mathlib.Core.List.{List, [], _∷_}
 use mathlib.Core.Logic.{⊎-elim}
 use native.Mathlib.Numerals.{add-one}
 use native.Mathlib.Nat.{div-one, mul-le-mul-left, add-zero, add-comm, add-assoc, mul-comm, mul-add, le-refl, not-suc-le-zero, le-of-suc-le-suc, eq-or-lt-of-le, mod-lt, mod-add-div}
@@ -11,10 +11,7 @@ use lib.Dec.{T, eqb, ltb}
 use lib.ListN.{length, getD, take}
 use Rattle.rules.specs.Bytes.{pick, at, numbersFrom}
 use Rattle.rules.specs.Cell.{Positive, cells, card, present, lowest, step, has, insert, singleton, without, over, overTo}
-use Rattle.rules.specs.Network.{Record, gate}
-use Rattle.rules.specs.Tree.{Tree, size, records}
-use Rattle.rules.specs.Stage.{Stage, dropOne, drops, Grouping, none, sets, pairWith, firstPair, addCondition, grow, cofactorStage, selector, splitPart, splitTo}
-use Rattle.rules.specs.declared.Gate.the-variants.{Min, Max}
+use Rattle.rules.specs.Stage.{Stage, dropOne, drops, Grouping, none, sets, pairWith, firstPair, addCondition, grow}
 use Rattle.laws.proofs.OverLaws.{Bound}
 use Rattle.laws.proofs.CellLaws.{cells-pos}
 use Rattle.laws.proofs.TestLaws.{cond-ok, pick-ok}
@@ -114,23 +111,6 @@ module _ (is : ℕ → Bool) (joins : ℕ → ℕ → Bool) where
       pair-none a (suc a) n _ (λ z u v. y a z (le-refl a) lt (omega arith) (omega arith))
       ∙ first-at (suc a) n i j lt k (omega arith) t x (λ b z u v w r. y b z (omega arith) v w (omega arith)))
       (eq-or-lt-of-le l)
-
--- 6. the records of one value more: at is the number of the literal, c the size of the stage's network
-module _ (m : ℕ) (net : Stage → Tree) (x : Stage) where
-  pub part-records : (k r : ℕ) → records (splitPart m net x k) r ≡ records (selector m (x .ks) k) r ++ (records (net (cofactorStage k x)) (r + 1) ++ (gate Min r (r + size (net (cofactorStage k x))) ∷ []))
-  part-records k r =
-      ap₂ (λ (a b : ℕ). (records (selector m (x .ks) k) r ++ records (net (cofactorStage k x)) (r + 1)) ++ (gate Min a b ∷ [])) (omega arith) (omega arith)
-      ∙ append-assoc (records (selector m (x .ks) k) r) (records (net (cofactorStage k x)) (r + 1)) _
-
-  pub split-records : (k r : ℕ) → let at = r + size (splitTo m net x k) in let c = size (net (cofactorStage (suc k) x)) in
-      records (splitTo m net x (suc k)) r
-      ≡ (records (splitTo m net x k) r ++ (records (selector m (x .ks) (suc k)) at ++ (records (net (cofactorStage (suc k) x)) (at + 1) ++ (gate Min at (at + c) ∷ []))))
-      ++ (gate Max (at - 1) (at + c + 1) ∷ [])
-  split-records k r =
-      let at = r + size (splitTo m net x k) in
-      let c = size (net (cofactorStage (suc k) x)) in
-      let e : at + (1 + c + 1) - 1 ≡ at + c + 1 = omega arith in
-      ap₂ (λ (q : List Record) (b : ℕ). (records (splitTo m net x k) r ++ q) ++ (gate Max (at - 1) b ∷ [])) (part-records (suc k) at) e
 
 -- loops over arrays of eight cardinalities
 pub step-le : (ks : List ℕ) (i : ℕ) → Positive ks → step ks i ≤ cells ks

@@ -2,9 +2,9 @@
 use Prim.Native.Nat.{ℕ, zero, suc, _+_, _*_, _/_, _%_, _≤_, _<_}
 use mathlib.Core.Path.{_≡_, refl, sym, _∙_, ap, ap₂, subst}
 use mathlib.Core.List.{List, [], _∷_}
-use native.Mathlib.Nat.{le-trans, le-antisymm, mod-one, div-one, one-mul, mul-one, zero-add, not-suc-le-zero, mul-le-mul-left, mul-le-mul-right, mod-add-div}
+use native.Mathlib.Nat.{le-refl, le-trans, le-antisymm, mod-one, div-one, one-mul, mul-one, zero-add, not-suc-le-zero, mul-le-mul-left, mul-le-mul-right, mod-add-div}
 use native.Mathlib.Omega.{arith}
-use lib.ListN.{length}
+use lib.ListN.{length, set, List·getD-eq-default}
 use lib.Dec.{T, eqb, ltb, ltb→lt, lt→ltb}
 use Rattle.rules.specs.Bytes.{pick}
 use Rattle.rules.specs.Cell.{Positive, cells, card, present, width, lowest, value, cell, remap, singleton, without}
@@ -20,6 +20,11 @@ without-none (k ∷ ks) = ap (λ (l : List ℕ). k ∷ l) (without-none ks)
 pub without-suc : (i k : ℕ) (ks : List ℕ) → without (singleton (suc i)) (k ∷ ks) ≡ k ∷ without (singleton i) ks
 without-suc i k ks =
     ap₂ (λ (a s : ℕ). pick (eqb a 1) 1 k ∷ without s ks) (digit-mod 2 0 (singleton i) (omega arith)) (digit-div 2 0 (singleton i) (omega arith))
+
+pub set-without : (ks : List ℕ) (i : ℕ) → i < length ks → set ks i 1 ≡ without (singleton i) ks
+set-without [] i h = absurd (omega arith)
+set-without (k ∷ ks) zero h = ap (λ (l : List ℕ). 1 ∷ l) (sym (without-none ks))
+set-without (k ∷ ks) (suc i) h = ap (λ (l : List ℕ). k ∷ l) (set-without ks i (omega arith)) ∙ sym (without-suc i k ks)
 
 pub present-width : (ks : List ℕ) (i : ℕ) → T (present ks i) → 1 ≤ width ks
 present-width [] i h = absurd h
@@ -89,6 +94,14 @@ lowest-width (k ∷ ks) p h =
 pub lowest-fewer : (ks : List ℕ) → Positive ks → 1 ≤ width ks → width (without (singleton (lowest ks)) ks) < width ks
 lowest-fewer ks p h = omega (arith, lowest-width ks p h)
 
+-- the cells of each value
+pub lowest-div : (ks : List ℕ) → Positive ks → 1 ≤ width ks → cells ks / card ks (lowest ks) ≡ cells (without (singleton (lowest ks)) ks)
+lowest-div ks p h =
+    let n = card ks (lowest ks) in
+    let rest = cells (without (singleton (lowest ks)) ks) in
+    let e : cells ks ≡ 0 + n * rest = omega (arith, lowest-cells ks p h) in
+    ap (λ (z : ℕ). z / n) e ∙ digit-div n 0 rest (omega (arith, lowest-two ks p h))
+
 -- one condition left: the cells are its values
 module _ (ks : List ℕ) (p : Positive ks) (e : width ks ≡ 1) where
   one-rest : cells (without (singleton (lowest ks)) ks) ≡ 1
@@ -124,10 +137,18 @@ module _ (ks : List ℕ) (p : Positive ks) where
       absurd (omega (arith, lowest-cells ks p some, lowest-two ks p some, mul-le-mul-left (card ks (lowest ks)) r)))
       (λ lt. lt)
 
-  pub more-left : lowest ks < length ks → (card ks (lowest ks) ≡ cells ks → ⊥) → 2 ≤ width ks
-  more-left h ne =
+  -- none left: one cell, and one value past the places
+  pub none-cells : width ks ≡ 0 → card ks (lowest ks) ≡ cells ks
+  none-cells e = ap (card ks) (lowest-past ks e) ∙ List·getD-eq-default ks 1 (le-refl (length ks)) ∙ sym (no-width ks p e)
+
+  -- so by the number of its values: it has as many as there are cells, or there are two conditions
+  pub narrow-left : card ks (lowest ks) ≡ cells ks → width ks < 2
+  narrow-left e = by-order 1 (width ks) (λ some. one-left some e) (λ none. omega arith)
+
+  pub wide-left : (card ks (lowest ks) ≡ cells ks → ⊥) → 2 ≤ width ks
+  wide-left ne =
       by-order 2 (width ks) (λ le. le)
-      (λ lt. by-order 1 (width ks) (λ le. absurd (ne (one-cells ks p (omega arith)))) (λ z. absurd (omega (arith, some-left h))))
+      (λ lt. by-order 1 (width ks) (λ some. absurd (ne (one-cells ks p (omega arith)))) (λ none. absurd (ne (none-cells (omega arith)))))
 
 -- the cells where it is k are k + card × c
 module _ (ks : List ℕ) (k c : ℕ) (p : Positive ks) (h : 1 ≤ width ks) (hk : k < card ks (lowest ks)) (hc : c < cells (without (singleton (lowest ks)) ks)) where

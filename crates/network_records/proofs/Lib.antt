@@ -1,2 +1,3 @@
 -- Laws of records and their bytes.
 pub mod LiteralLaws
+pub mod PutLaws

@@ -1,31 +1,35 @@
-// The records of a network, each written whole: record r at byte 16 × r.
+// The records of a network, each written whole: record r at byte 16 × r, where the buffer has room for it.
 use rules::Gate;
 use rules::PLACES;
 use rules::RECORD;
 use rules::kinds;
-ghost use Prim.Native.Nat.{_+_, _-_, _*_, _≤_, _<_};
+ghost use Prim.Native.Nat.{_-_, _≤_, _<_};
 ghost use mathlib.Core.Path.{_≡_};
+ghost use mathlib.Core.List.{[], _∷_};
 ghost use lib.Dec.{eqb};
 ghost use lib.ListN.{length};
 ghost use Rattle.rules.specs.Bytes.{at, pick, tabulate};
 ghost use Rattle.rules.specs.Network.{constant, literal, gate, recordBytes, kindOf};
-ghost use Rattle.tables.specs.Part.{Laid};
 ghost use Rattle.network_records.specs.Grades.{Padded};
+ghost use Rattle.network_records.specs.Putting.{Put, PutBytes};
 
 // Sixteen bytes as record r.
 fn put(net: &mut [u8], r: usize, bytes: [u8; RECORD])
-    requires { ⌜ 16 * r + 16 ≤ length (now net) ⌝ }
-    ensures { λ _. ⌜ Laid (now (net .entry)) (16 * r) bytes 16 (now (net .exit)) ⌝ }
+    requires { ⌜ r < 65536 ⌝ }
+    ensures { λ _. ⌜ PutBytes (now (net .entry)) r bytes (now (net .exit)) ⌝ }
 {
     let a = RECORD * r;
+    if net.len() < a + RECORD {
+        return;
+    }
     for j in 0..RECORD {
         net[a + j] = bytes[j];
     }
 }
 
 pub fn put_constant(net: &mut [u8], r: usize, grade: u8)
-    requires { ⌜ 16 * r + 16 ≤ length (now net) ⌝ }
-    ensures { λ _. ⌜ Laid (now (net .entry)) (16 * r) (recordBytes (constant grade)) 16 (now (net .exit)) ⌝ }
+    requires { ⌜ r < 65536 ⌝ }
+    ensures { λ _. ⌜ Put (now (net .entry)) r (constant grade ∷ []) (now (net .exit)) ⌝ }
 {
     put(
         net,
@@ -61,8 +65,8 @@ fn kind(by: Gate) -> u8
 }
 
 pub fn put_gate(net: &mut [u8], r: usize, by: Gate, left: usize, right: usize)
-    requires { ⌜ (16 * r + 16 ≤ length (now net)) × (left < 65536) × (right < 65536) ⌝ }
-    ensures { λ _. ⌜ Laid (now (net .entry)) (16 * r) (recordBytes (gate by left right)) 16 (now (net .exit)) ⌝ }
+    requires { ⌜ (r < 65536) × (left < 65536) × (right < 65536) ⌝ }
+    ensures { λ _. ⌜ Put (now (net .entry)) r (gate by left right ∷ []) (now (net .exit)) ⌝ }
 {
     let low_left = (left % 256) as u8;
     let high_left = (left / 256) as u8;
@@ -93,8 +97,8 @@ pub fn put_gate(net: &mut [u8], r: usize, by: Gate, left: usize, right: usize)
 }
 
 fn put_grades(net: &mut [u8], r: usize, condition: u8, grades: [u8; PLACES])
-    requires { ⌜ 16 * r + 16 ≤ length (now net) ⌝ }
-    ensures { λ _. ⌜ Laid (now (net .entry)) (16 * r) (recordBytes (literal condition grades)) 16 (now (net .exit)) ⌝ }
+    requires { ⌜ r < 65536 ⌝ }
+    ensures { λ _. ⌜ PutBytes (now (net .entry)) r (recordBytes (literal condition grades)) (now (net .exit)) ⌝ }
 {
     put(
         net,
@@ -134,16 +138,16 @@ fn grades_of(table: &[u8], card: usize) -> [u8; PLACES]
 
 // A literal with the first `card` grades of a table.
 pub fn put_literal(net: &mut [u8], r: usize, condition: u8, table: &[u8], card: usize)
-    requires { ⌜ (16 * r + 16 ≤ length (now net)) × (card ≤ 8) × (card ≤ length (now table)) ⌝ }
-    ensures { λ _. ⌜ Laid (now (net .entry)) (16 * r) (recordBytes (literal condition (tabulate card (at (now (table .entry)))))) 16 (now (net .exit)) ⌝ }
+    requires { ⌜ (r < 65536) × (card ≤ 8) × (card ≤ length (now table)) ⌝ }
+    ensures { λ _. ⌜ Put (now (net .entry)) r (literal condition (tabulate card (at (now (table .entry)))) ∷ []) (now (net .exit)) ⌝ }
 {
     put_grades(net, r, condition, grades_of(table, card));
 }
 
 // A literal that is the top grade at value k of `card` values, and 0 elsewhere.
 pub fn put_selector(net: &mut [u8], r: usize, condition: u8, card: usize, k: usize, top: u8)
-    requires { ⌜ (16 * r + 16 ≤ length (now net)) × (card ≤ 8) × (k < card) ⌝ }
-    ensures { λ _. ⌜ Laid (now (net .entry)) (16 * r) (recordBytes (literal condition (tabulate card (λ v. pick (eqb v k) top 0)))) 16 (now (net .exit)) ⌝ }
+    requires { ⌜ (r < 65536) × (card ≤ 8) × (k < card) ⌝ }
+    ensures { λ _. ⌜ Put (now (net .entry)) r (literal condition (tabulate card (λ v. pick (eqb v k) top 0)) ∷ []) (now (net .exit)) ⌝ }
 {
     let mut grades = [0u8; PLACES];
     grades[k] = top;

@@ -5,6 +5,7 @@ ghost use Rattle.panel_networks.specs.Evaluates.{Evaluates};
 ghost use Rattle.panel_reads.specs.Reads.{Reads};
 ghost use Rattle.panel_joins.specs.Joins.{JoinsFirst, JoinsSecond};
 ghost use Rattle.panel_networks.specs.Compiles.{Compiles};
+ghost use Rattle.panel_networks.specs.Forecasts.{Forecasts};
 ghost use Rattle.panel_networks.specs.Checks.{Checks};
 use rules::Gate;
 
@@ -128,6 +129,21 @@ pub extern "C" fn grades_compile(
     ensures { λ r. ⌜ Compiles (now (shape .entry)) (now (lower .entry)) (now (upper .entry)) (now (work .entry)) (now (network .entry)) r (now (work .exit)) (now (network .exit)) ⌝ }
 {
     panel_networks::compile(shape, lower, upper, work, network)
+}
+
+// What the network of a table will have: how many records, and in two bytes, low first, the depth of gates under
+// the last one. The work buffer has 16 bytes for each cell.
+#[no_mangle]
+pub extern "C" fn grades_forecast(
+    shape: &[u8],
+    lower: &[u8],
+    upper: &[u8],
+    work: &mut [u8],
+    depth: &mut [u8],
+) -> u32
+    ensures { λ r. ⌜ Forecasts (now (shape .entry)) (now (lower .entry)) (now (upper .entry)) (now (work .entry)) (now (depth .entry)) r (now (work .exit)) (now (depth .exit)) ⌝ }
+{
+    panel_networks::forecast(shape, lower, upper, work, depth)
 }
 
 // Whether a network keeps within a table's limits: 0, or a number for the first cell outside and

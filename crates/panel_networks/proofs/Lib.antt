@@ -1,5 +1,6 @@
 -- Laws of `panel_networks`.
 pub mod EvaluateLaws
 pub mod CompileLaws
+pub mod ForecastLaws
 pub mod OutsideLaws
 pub mod CheckLaws

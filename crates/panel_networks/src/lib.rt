@@ -1,8 +1,14 @@
-// Compiling, checking and evaluating for C: the shape is lent as ten bytes, and answers are numbers.
+// Compiling, forecasting, checking and evaluating for C: the shape is lent as ten bytes, and answers are numbers.
+ghost use Prim.Native.Nat.{_≤_, _<_};
+ghost use mathlib.Core.Path.{_≡_};
+ghost use lib.ListN.{length};
 ghost use Rattle.panel_networks.specs.Compiles.{Compiles};
+ghost use Rattle.panel_networks.specs.Forecasts.{withWord, Forecasts};
 ghost use Rattle.panel_networks.specs.Checks.{Checks};
 ghost use Rattle.panel_networks.specs.Evaluates.{Evaluates};
+use compile::ForecastAnswer;
 use network::Evaluation;
+use rules::Refusal;
 use shape::Shape;
 use shape::ShapeAnswer;
 
@@ -27,6 +33,40 @@ pub fn compile(shape: &[u8], lower: &[u8], upper: &[u8], work: &mut [u8], networ
         ShapeAnswer::Refused(refusal) => panel_answers::of_refusal(refusal),
         ShapeAnswer::Accepted(shape) => {
             panel_answers::of_compile(compile::compile(shape, lower, upper, work, network))
+        }
+    }
+}
+
+// A number as two bytes, the low one first, at the front of a buffer.
+fn put_word(buffer: &mut [u8], n: usize)
+    requires { ⌜ (n < 65536) × (2 ≤ length (now buffer)) ⌝ }
+    ensures { λ _. ⌜ now (buffer .exit) ≡ withWord n (now (buffer .entry)) ⌝ }
+{
+    buffer[0] = (n % 256) as u8;
+    buffer[1] = (n / 256) as u8;
+}
+
+// What the network of a table will have: how many records, and in two bytes, low first, the depth of gates under
+// the last one. The work buffer has 16 bytes for each cell.
+pub fn forecast(shape: &[u8], lower: &[u8], upper: &[u8], work: &mut [u8], depth: &mut [u8]) -> u32
+    ensures { λ r. ⌜ Forecasts (now (shape .entry)) (now (lower .entry)) (now (upper .entry)) (now (work .entry)) (now (depth .entry)) r (now (work .exit)) (now (depth .exit)) ⌝ }
+{
+    match Shape::from_bytes(shape) {
+        ShapeAnswer::Refused(refusal) => panel_answers::of_refusal(refusal),
+        ShapeAnswer::Accepted(shape) => {
+            if depth.len() < 2 {
+                return panel_answers::of_refusal(Refusal::ShortBuffer);
+            }
+            match compile::forecast(shape, lower, upper, work) {
+                ForecastAnswer::Refused(refusal) => panel_answers::of_refusal(refusal),
+                ForecastAnswer::Figures {
+                    records,
+                    depth: levels,
+                } => {
+                    put_word(depth, levels);
+                    records as u32
+                }
+            }
         }
     }
 }

@@ -4,8 +4,9 @@ use rules::PLACES;
 ghost use Prim.Native.Nat.{_<_};
 ghost use mathlib.Core.Path.{_≡_};
 ghost use lib.Dec.{T};
-ghost use Rattle.rules.specs.Cell.{has, insert, singleton, without, lowest};
+ghost use Rattle.rules.specs.Cell.{has, insert, singleton, without};
 ghost use Rattle.rules.specs.Stage.{count};
+ghost use Rattle.places.specs.Conditions.{IsLowest};
 
 const BITS: [u8; PLACES] = [1, 2, 4, 8, 16, 32, 64, 128];
 
@@ -51,14 +52,36 @@ pub fn without(ks: [u8; PLACES], set: u8) -> [u8; PLACES]
     left
 }
 
-// The condition with the lowest number, 8 where there is none.
-pub fn lowest(ks: [u8; PLACES]) -> usize
-    ensures { λ r. ⌜ r ≡ lowest ks ⌝ }
+// The places without condition i.
+pub fn without_one(ks: [u8; PLACES], i: usize) -> [u8; PLACES]
+    requires { ⌜ i < 8 ⌝ }
+    ensures { λ r. ⌜ r ≡ without (singleton i) ks ⌝ }
+{
+    let mut left = ks;
+    left[i] = 1;
+    left
+}
+
+// A condition's number, and how many values it has.
+pub struct Condition {
+    pub number: usize,
+    pub values: usize,
+}
+
+// The condition with the lowest number; 8, with one value, where there is none.
+pub fn lowest(ks: [u8; PLACES]) -> Condition
+    ensures { λ r. ⌜ IsLowest ks r ⌝ }
 {
     for i in 0..PLACES {
         if 1 < ks[i] {
-            return i;
+            return Condition {
+                number: i,
+                values: ks[i] as usize,
+            };
         }
     }
-    8
+    Condition {
+        number: PLACES,
+        values: 1,
+    }
 }

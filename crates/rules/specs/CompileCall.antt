@@ -21,10 +21,13 @@ mostRecords c = pick (eqb c 1) 1 (3 * c - 5)
 abbrev pub compileWork : ℕ → ℕ
 compileWork c = 16 * c
 
--- row 10, by lengths: a byte for each of c cells in both limit buffers, the work, sixteen bytes for each of the most records in the network
--- buffer
+-- row 10, by lengths: a byte for each of c cells in both limit buffers, and the work
+abbrev pub tableRoom : ℕ → ℕ → ℕ → ℕ → Bool
+tableRoom c lower upper work = roomy c (lower ∷ upper ∷ []) && leb (compileWork c) work
+
+-- and sixteen bytes for each of the most records in the network buffer
 abbrev pub compileRoom : ℕ → ℕ → ℕ → ℕ → ℕ → Bool
-compileRoom c lower upper work network = roomy c (lower ∷ upper ∷ []) && (leb (compileWork c) work && leb (16 * mostRecords c) network)
+compileRoom c lower upper work network = tableRoom c lower upper work && leb (16 * mostRecords c) network
 
 -- a table's limits: those that the lent buffers hold for its cells, which may be fewer than the bytes lent
 abbrev pub lentLimits : List ℕ → List ℕ → List ℕ → Limits

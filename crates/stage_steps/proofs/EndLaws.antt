@@ -1,76 +1,56 @@
--- The one record of a stage with no condition left or one, and a function moved to a stage's own places.
-use Prim.Native.Nat.{ℕ, _+_, _*_, _≤_, _<_}
-use mathlib.Core.Path.{_≡_, refl, sym, _∙_, ap, subst}
-use mathlib.Core.Bool.{Bool, true, false}
-use mathlib.Core.List.{List, [], _∷_}
+-- The record of a stage with no condition left or one, and a function moved to a stage's own places.
+use Prim.Native.Nat.{ℕ, _*_, _≤_, _<_}
+use mathlib.Core.Path.{_≡_, refl, sym, _∙_, ap, ap₂, subst}
+use mathlib.Core.List.{List}
 use mathlib.Core.Logic.{inl, inr}
 use native.Mathlib.Omega.{arith}
-use lib.Dec.{ltb, eqb}
-use lib.ListN.{length, getD}
-use borrow.Author.Tests.{eqb-true, eqb-false, lt-ltb, le-ltb}
+use lib.ListN.{length}
 use Rattle.rules.specs.Bytes.{at, tabulate}
-use Rattle.rules.specs.Cell.{Positive, cells, card, width, lowest, remap, moved}
-use Rattle.rules.specs.Network.{Record, constant, literal, recordBytes}
-use Rattle.rules.specs.Tree.{Tree, records}
+use Rattle.rules.specs.Cell.{Positive, cells, width, remap, moved}
+use Rattle.rules.specs.Tree.{Tree, fixed, lookup}
 use Rattle.rules.specs.Stage.{Stage, leftTree}
 use Rattle.laws.proofs.CellLaws.{cells-pos, cell-value}
-use Rattle.laws.proofs.LoopLaws.{card-read}
-use Rattle.laws.proofs.LowestLaws.{one-cells, none-left, some-left, one-left, more-left}
+use Rattle.laws.proofs.LowestLaws.{one-cells, none-left, some-left}
 use Rattle.laws.proofs.TestLaws.{by-order}
 use Rattle.laws.proofs.TableLaws.{length-tabulateFrom, tabulate-same, tabulate-self}
-use Rattle.tables.specs.Part.{part, Laid, Apart}
+use Rattle.places.specs.declared.sets.Condition.{Condition}
+use Rattle.places.specs.Conditions.{IsLowest}
+use Rattle.tables.specs.Part.{part, Shaped, Laid, Apart}
 use Rattle.tables.proofs.PartLaws.{part-at, part-length, laid-part}
 use Rattle.stage_blocks.specs.Blocks.{stageOf}
-use Rattle.stage_steps.specs.Ends.{LeafRoom, LeafPut, SpreadRoom, SpreadLaid}
-use Rattle.stage_steps.specs.Putting.{Put}
-use Rattle.stage_steps.proofs.PutLaws.{put-one, put-as}
+use Rattle.stage_steps.specs.declared.gates.Extent.{Extent}
+use Rattle.stage_steps.specs.Ends.{LeafPut, SpreadRoom, SpreadLaid}
+use Rattle.stage_steps.specs.Extents.{TreePut}
 
--- the record x, where it is the one of step 2 for as many conditions as are left
-leaf-put : (ks w net : List ℕ) (r n : ℕ) (x : Record) (net′ : List ℕ) → width ks ≡ n
-    → ((m : ℕ) (sub : Stage → Tree) (u : List ℕ) → x ∷ [] ≡ records (leftTree m sub n (stageOf ks (record { lower = part w 0 (cells ks); upper = u }))) r)
-    → Laid net (16 * r) (recordBytes x) 16 net′ → LeafPut ks w net r net′
-leaf-put ks w net r n x net′ e q l =
-    record {
-      put = λ m sub u.
-          subst (λ (k : ℕ). Put net r (records (leftTree m sub k (stageOf ks (record { lower = part w 0 (cells ks); upper = u }))) r) net′) (sym e)
-          (put-as (q m sub u) (put-one x l));
-    }
+-- step 2's record is the tree of the stage with no condition left or one, whatever the upper grades, and whatever network other stages have
+module _ (ks w : List ℕ) {low : Condition} (shaped : Shaped ks) (places : length ks ≡ 8) (narrow : width ks < 2) (is : IsLowest ks low) where
+  abbrev stage : List ℕ → Stage
+  stage u = stageOf ks (record { lower = part w 0 (cells ks); upper = u })
 
-pub leaf-none : {ks w net : List ℕ} {r : ℕ} {net′ : List ℕ} → LeafRoom w net ks r → width ks ≡ 0
-    → Laid net (16 * r) (recordBytes (constant (at w 0))) 16 net′ → LeafPut ks w net r net′
-leaf-none {ks} {w} {net} {r} {net′} p e =
-    leaf-put ks w net r 0 (constant (at w 0)) net′ e
-    (λ m sub u. ap (λ (q : ℕ). constant q ∷ []) (sym (part-at w 0 (cells ks) 0 (cells-pos ks (p .shaped .some)))))
+  abbrev leaf : (m : ℕ) (sub : Stage → Tree) (u : List ℕ) → Tree
+  leaf m sub u = leftTree m sub (width ks) (stage u)
 
--- one condition left, found at i
-pub record One (w net ks : List ℕ) (r i : ℕ) : Type 0 where
-  pub room : LeafRoom w net ks r
-  pub places : length ks ≡ 8
-  pub found : i ≡ lowest ks
-  pub place : i < 8
+  none-tree : 8 ≤ low .number → (m : ℕ) (sub : Stage → Tree) (u : List ℕ) → fixed (at w 0) ≡ leaf m sub u
+  none-tree h m sub u =
+      let e = is .number in
+      ap fixed (sym (part-at w 0 (cells ks) 0 (cells-pos ks (shaped .some))))
+      ∙ ap (λ (n : ℕ). leftTree m sub n (stage u)) (sym (none-left ks (shaped .some) (omega arith)))
 
-module _ {w net ks : List ℕ} {r i : ℕ} (o : One w net ks r i) where
-  one-width : width ks ≡ 1
-  one-width =
-      let e = o .found in let h = o .place in let l = o .places in
-      let s = some-left ks (o .room .shaped .some) (omega arith) in let n = o .room .narrow in omega arith
+  one-tree : low .number < 8 → (m : ℕ) (sub : Stage → Tree) (u : List ℕ) → lookup (low .number) (tabulate (low .values) (at w)) ≡ leaf m sub u
+  one-tree h m sub u =
+      let e = is .number in
+      let one : width ks ≡ 1 = let some = some-left ks (shaped .some) (omega arith) in omega arith in
+      let all : low .values ≡ cells ks = is .values ∙ one-cells ks (shaped .some) one in
+      ap (lookup (low .number))
+      (tabulate-same (low .values) (at w) (at (part w 0 (cells ks))) (λ c l. sym (part-at w 0 (cells ks) c (omega arith) ∙ ap (at w) (omega arith))))
+      ∙ ap₂ (λ (i n : ℕ). lookup i (tabulate n (at (part w 0 (cells ks))))) (is .number) (is .values)
+      ∙ ap (λ (n : ℕ). leftTree m sub n (stage u)) (sym one)
 
-  one-card : getD ks i 0 ≡ card ks (lowest ks)
-  one-card = card-read ks i (let e = o .places in let h = o .place in omega arith) ∙ ap (card ks) (o .found)
-
-  one-all : getD ks i 0 ≡ cells ks
-  one-all = one-card ∙ one-cells ks (o .room .shaped .some) one-width
-
-  pub one-room : (16 * r + 16 ≤ length net) × (getD ks i 0 ≤ 8) × (getD ks i 0 ≤ length w)
-  one-room = (o .room .network, rw one-card (o .room .few (lowest ks)), rw one-all (o .room .work))
-
-  pub leaf-one : {net′ : List ℕ} → Laid net (16 * r) (recordBytes (literal i (tabulate (getD ks i 0) (at w)))) 16 net′ → LeafPut ks w net r net′
-  leaf-one {net′} =
-      leaf-put ks w net r 1 (literal i (tabulate (getD ks i 0) (at w))) net′ one-width
-      (λ m sub u.
-      ap (λ (gs : List ℕ). literal i gs ∷ [])
-      (tabulate-same (getD ks i 0) (at w) (at (part w 0 (cells ks))) (λ c l. sym (part-at w 0 (cells ks) c (rw (← one-all) l) ∙ ap (at w) (omega arith))))
-      ∙ rw (one-card, o .found) refl)
+  pub leaf-tree : {net : List ℕ} {r : ℕ} {of : Extent} {net′ : List ℕ} → LeafPut low w net r of net′ → (m : ℕ) (sub : Stage → Tree) (u : List ℕ) → TreePut (leaf m sub u) net r of net′
+  leaf-tree {net} {r} {of} {net′} p m sub u =
+      by-order 8 (low .number)
+      (λ le. subst (λ (t : Tree). TreePut t net r of net′) (none-tree le m sub u) (p .none le))
+      (λ lt. subst (λ (t : Tree). TreePut t net r of net′) (one-tree lt m sub u) (p .one lt))
 
 -- a table moved to the places it has
 pub moved-self : (ks f : List ℕ) → Positive ks → length f ≡ cells ks → moved ks ks f ≡ f
@@ -113,18 +93,3 @@ module _ {w ks b : List ℕ} {n c : ℕ} (p : SpreadRoom w ks b n c) where
               ∙ ap (moved b ks) (subst (λ (x : ℕ). part v (2 * c) x ≡ part w 0 x) (p .left) copied);
           len = m .len ∙ l .len;
         }
-
--- none left or one, by the tests that are made
-module _ (ks : List ℕ) {i n : ℕ} (p : Positive ks) (ei : i ≡ lowest ks) (en : n ≡ cells ks) (places : length ks ≡ 8) where
-  pub narrow-none : 8 ≤ i → true ≡ ltb (width ks) 2
-  narrow-none h = sym (lt-ltb (width ks) 2 (omega (arith, none-left ks p (omega arith))))
-
-  module _ (lt : i < 8) where
-    card-is : getD ks i 0 ≡ card ks (lowest ks)
-    card-is = card-read ks i (omega arith) ∙ ap (card ks) ei
-
-    pub narrow-one : (b : Bool) → eqb (getD ks i 0) n ≡ b → b ≡ ltb (width ks) 2
-    narrow-one true e =
-        let q : card ks (lowest ks) ≡ cells ks = sym card-is ∙ eqb-true (getD ks i 0) n e ∙ en in
-        by-order 1 (width ks) (λ some. sym (lt-ltb (width ks) 2 (one-left ks p some q))) (λ none. sym (lt-ltb (width ks) 2 (omega arith)))
-    narrow-one false e = sym (le-ltb (width ks) 2 (more-left ks p (omega arith) (λ q. eqb-false (getD ks i 0) n e (card-is ∙ q ∙ sym en))))

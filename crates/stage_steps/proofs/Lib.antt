@@ -1,4 +1,4 @@
 -- What several proofs use.
 pub mod EndLaws
-pub mod PutLaws
+pub mod ExtentLaws
 pub mod ValueLaws

@@ -1,29 +1,29 @@
 -- How a stage ends.
-use Prim.Native.Nat.{ℕ, _+_, _-_, _*_, _≤_, _<_}
+use Prim.Native.Nat.{ℕ, _*_, _≤_, _<_}
 use mathlib.Core.Path.{_≡_}
-use mathlib.Core.List.{List, [], _∷_}
+use mathlib.Core.List.{List}
 use lib.ListN.{length}
 use Rattle.rules.specs.declared.Gate.{Gate}
-use Rattle.rules.specs.Cell.{cells, card, width, moved}
-use Rattle.rules.specs.Network.{gate}
-use Rattle.rules.specs.Tree.{Tree, records}
-use Rattle.rules.specs.Stage.{Stage, leftTree}
+use Rattle.rules.specs.Bytes.{at, tabulate}
+use Rattle.rules.specs.Cell.{cells, moved}
+use Rattle.rules.specs.Tree.{fixed, lookup}
+use Rattle.places.specs.declared.sets.Condition.{Condition}
 use Rattle.tables.specs.Part.{part, Shaped}
-use Rattle.stage_blocks.specs.Blocks.{stageOf, JoinedRoom, JoinedLaid}
-use Rattle.stage_steps.specs.Putting.{Put}
+use Rattle.stage_blocks.specs.Blocks.{JoinedLaid}
+use Rattle.stage_steps.specs.declared.gates.Extent.{Extent}
+use Rattle.stage_steps.specs.Extents.{TreePut, GatePut}
 
--- none left or one: the lower grades are at the front of the work buffer
-pub record LeafRoom (w net ks : List ℕ) (r : ℕ) : Type 0 where
-  pub shaped : Shaped ks
-  pub few : (i : ℕ) → card ks i ≤ 8
-  pub narrow : width ks < 2
-  pub work : cells ks ≤ length w
-  pub network : 16 * r + 16 ≤ length net
+-- none left, or the condition `low`: a lower grade for each of its values is at the front of the work buffer
+pub record LeafRoom (w : List ℕ) (low : Condition) (r : ℕ) : Type 0 where
+  pub some : 1 ≤ low .values
+  pub few : low .values ≤ 8
+  pub work : low .values ≤ length w
+  pub number : r < 65536
 
--- whatever the upper grades, and whatever network other stages have: the one record of step 2
-pub record LeafPut (ks w net : List ℕ) (r : ℕ) (net′ : List ℕ) : Type 0 where
-  pub put : (m : ℕ) (sub : Stage → Tree) (u : List ℕ)
-      → Put net r (records (leftTree m sub (width ks) (stageOf ks (record { lower = part w 0 (cells ks); upper = u }))) r) net′
+-- the one record of step 2
+pub record LeafPut (low : Condition) (w net : List ℕ) (r : ℕ) (of : Extent) (net′ : List ℕ) : Type 0 where
+  pub none : 8 ≤ low .number → TreePut (fixed (at w 0)) net r of net′
+  pub one : low .number < 8 → TreePut (lookup (low .number) (tabulate (low .values) (at w))) net r of net′
 
 -- a function over the places b at the front of a buffer with parts of as many cells as ks has, to be moved to ks: with as many cells these
 -- are the same places
@@ -40,15 +40,7 @@ pub record SpreadLaid (ks b w w′ : List ℕ) : Type 0 where
   pub here : part w′ 0 (cells ks) ≡ moved b ks (part w 0 (cells b))
   pub len : length w′ ≡ length w
 
--- a join's blocks are done, with records up to a and from a up to e
-pub record CloseRoom (w net ks b : List ℕ) (c a e : ℕ) : Type 0 where
-  pub work : JoinedRoom w ks b c
-  pub first : 0 < a
-  pub second : a < e
-  pub network : 16 * e + 16 ≤ length net
-  pub numbers : e < 65536
-
-pub record Closed (by : Gate) (ks b : List ℕ) (c a e : ℕ) (w net : List ℕ) (n : ℕ) (w′ net′ : List ℕ) : Type 0 where
-  pub put : Put net e (gate by (a - 1) (e - 1) ∷ []) net′
-  pub next : n ≡ e + 1
+-- a join's blocks have their networks: the gate over them, and the join's function
+pub record Closed (by : Gate) (ks b : List ℕ) (c : ℕ) (first second : Extent) (w net : List ℕ) (of : Extent) (w′ net′ : List ℕ) : Type 0 where
+  pub gate : GatePut by first second net of net′
   pub function : JoinedLaid by ks b c w w′

@@ -1,4 +1,4 @@
 -- What the contracts of a stage's steps cite.
 pub mod Ends
-pub mod Putting
+pub mod Extents
 pub mod Values

@@ -1,3 +1,4 @@
 // The steps of a stage that start no stage: what it writes, and its function over its own conditions.
 pub mod ends;
+pub mod gates;
 pub mod values;

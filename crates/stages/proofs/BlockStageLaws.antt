@@ -1,23 +1,22 @@
 -- 01, Stages, step 5: a join's two stages, one behind the other.
 use Prim.Native.Nat.{ℕ, _+_, _-_, _*_, _≤_, _<_}
 use mathlib.Core.Path.{_≡_, refl, sym, _∙_, ap, ap₂, subst}
-use mathlib.Core.List.{List, [], _∷_, _++_}
+use mathlib.Core.List.{List}
 use native.Mathlib.Nat.{le-trans}
 use native.Mathlib.Omega.{arith}
 use borrow.Rule.Slice.PartMut.{putMid}
-use lib.ListN.{length, length-append}
+use lib.ListN.{length}
 use Rattle.rules.specs.declared.Gate.{Gate}
 use Rattle.rules.specs.Bytes.{at, tabulate}
 use Rattle.rules.specs.Cell.{cells, width, value, without, moved}
 use Rattle.rules.specs.Limits.{Limits}
 use Rattle.rules.specs.Join.{exchangeFor}
-use Rattle.rules.specs.Network.{gate, combine}
-use Rattle.rules.specs.Tree.{Tree, gated, size, records}
+use Rattle.rules.specs.Network.{combine}
 use Rattle.rules.specs.Stage.{Stage, firstStage, secondStage, computed, joinTree, treeOf}
 use Rattle.rules.specs.Demands.{Admits}
 use Rattle.laws.proofs.GateLaws.{Good, exchangeFor-good}
 use Rattle.laws.proofs.JoinLaws.{uA-under, uB-under}
-use Rattle.laws.proofs.TreeLaws.{computed-at, made-below, size-pos, length-records}
+use Rattle.laws.proofs.TreeLaws.{computed-at, made-below}
 use Rattle.laws.proofs.StageLaws.{Ready, admitted, network-ok, first-ready, second-ready, first-inside}
 use Rattle.laws.proofs.FunctionLaws.{first-moved, joined}
 use Rattle.tables.specs.Part.{part}
@@ -25,12 +24,13 @@ use Rattle.tables.proofs.PartLaws.{part-at}
 use Rattle.join_tables.specs.Parts.{Below}
 use Rattle.grouping.specs.Joining.{stageAt}
 use Rattle.stage_drops.specs.Working.{ForSecond}
-use Rattle.stage_blocks.specs.Blocks.{stageOf, FirstRoom, FirstLaid, SecondRoom, SecondLaid}
+use Rattle.stage_blocks.specs.Blocks.{stageOf, FirstRoom, FirstLaid, SecondRoom, SecondLaid, JoinedRoom}
 use Rattle.stage_blocks.proofs.BlockLaws.{there}
 use Rattle.stage_drops.proofs.DropLaws.{fewer-shaped, as-shaped}
-use Rattle.stage_steps.specs.Putting.{Put}
-use Rattle.stage_steps.specs.Ends.{CloseRoom, Closed}
-use Rattle.stage_steps.proofs.PutLaws.{put-then, put-as}
+use Rattle.stage_steps.specs.declared.gates.Extent.{Extent}
+use Rattle.stage_steps.specs.Extents.{GateRoom}
+use Rattle.stage_steps.specs.Ends.{Closed}
+use Rattle.stage_steps.proofs.ExtentLaws.{gate-room, tree-gate}
 use Rattle.stages.specs.Staging.{Starts, Written, Joins}
 use Rattle.stages.proofs.LentLaws.{rest, Back, back-front}
 use Rattle.stages.proofs.ChildLaws.{proper-ready, written-as, Smaller, smaller, Lent, behind, falls, child-stage, child-starts, child-back, child-function}
@@ -39,16 +39,7 @@ part-below : {w : List ℕ} {a n m : ℕ} (t : List ℕ) → part w a n ≡ t �
 part-below {w} {a} {n} {m} t e h =
     record { grade = λ c lt. subst (λ (x : ℕ). x ≤ m - 1) (ap (λ (f : List ℕ). at f c) (sym e) ∙ part-at w a n c lt) (h c lt) }
 
--- the records of two trees, and then the gate over them
-gate-put : {net : List ℕ} {r e n : ℕ} {v u net′ : List ℕ} {by : Gate} (a b : Tree) → Put net r (records a r) v → e ≡ r + size a → Put v e (records b e) u → n ≡ e + size b
-    → Put u n (gate by (e - 1) (n - 1) ∷ []) net′ → Put net r (records (gated by a b) r) net′
-gate-put {net} {r} {e} {n} {v} {u} {net′} {by} a b p q o i h =
-    let f : n ≡ r + length (records a r ++ records b e) = omega (arith, length-append (records a r) (records b e), length-records a r, length-records b e) in
-    let d : e ≡ r + length (records a r) = omega (arith, length-records a r) in
-    let k : n ≡ r + size a + size b = omega arith in
-    put-as (ap₂ (λ (x z : ℕ). (records a r ++ records b x) ++ (gate by (x - 1) (z - 1) ∷ [])) q k) (put-then f (put-then d p o) h)
-
-module _ {gate : Gate} {m : ℕ} {ks : List ℕ} {l : Limits} {s t c : ℕ} {w net : List ℕ} {r : ℕ} (j : Joins gate m (stageOf ks l) s t c w net r) where
+module _ {gate : Gate} {m : ℕ} {ks : List ℕ} {l : Limits} {s t c : ℕ} {w : List ℕ} {r : ℕ} (j : Joins gate m (stageOf ks l) s t c w r) where
   abbrev y : Stage
   y = stageOf ks l
 
@@ -102,22 +93,18 @@ module _ {gate : Gate} {m : ℕ} {ks : List ℕ} {l : Limits} {s t c : ℕ} {w n
     first-stage : stageAt a (rest (8 * c) w₁) 0 (cells a) ≡ A
     first-stage = child-stage first-lent (f .stage s l (j .tables))
 
-    pub first-starts : {n : ℕ} → n ≡ cells a → Starts m a n (rest (8 * c) w₁) net r
-    first-starts e =
-        let i = j .fits .numbers in
-        let u = j .fits .room in
-        child-starts first-lent (A .limits) e first-stage (first-ready m gate s t y ready admits)
-        (record { numbers = omega arith; room = omega arith })
+    pub first-starts : {n : ℕ} → n ≡ cells a → Starts m a n (rest (8 * c) w₁) r
+    first-starts e = child-starts first-lent (A .limits) e first-stage (first-ready m gate s t y ready admits) (let i = j .numbers in omega arith)
 
     pub first-fewer : 2 * width a + 1 < 2 * width ks
     first-fewer = falls first-lent
 
-    pub first-back : {v net₁ : List ℕ} {e₁ : ℕ} → Written a (treeOf m (stageAt a (rest (8 * c) w₁) 0 (cells a))) (rest (8 * c) w₁) net r e₁ v net₁
+    pub first-back : {net v net₁ : List ℕ} {e₁ : Extent} → Written a (treeOf m (stageAt a (rest (8 * c) w₁) 0 (cells a))) (rest (8 * c) w₁) net r e₁ v net₁
         → Back (8 * c) w₁ v (putMid (8 * c) (length w₁ - 8 * c) w₁ v)
     first-back x = child-back first-lent (x .len)
 
     -- once it is done
-    module _ {v net₁ w₂ : List ℕ} {e₁ : ℕ} (x : Written a (treeOf m (stageAt a (rest (8 * c) w₁) 0 (cells a))) (rest (8 * c) w₁) net r e₁ v net₁) (k : Back (8 * c) w₁ v w₂) where
+    module _ {net v net₁ w₂ : List ℕ} {e₁ : Extent} (x : Written a (treeOf m (stageAt a (rest (8 * c) w₁) 0 (cells a))) (rest (8 * c) w₁) net r e₁ v net₁) (k : Back (8 * c) w₁ v w₂) where
       first-done : Written (A .ks) (treeOf m A) (rest (8 * c) w₁) net r e₁ v net₁
       first-done = written-as m A first-stage x
 
@@ -178,51 +165,36 @@ module _ {gate : Gate} {m : ℕ} {ks : List ℕ} {l : Limits} {s t c : ℕ} {w n
         second-ready-here : Ready m B
         second-ready-here = second-ready m gate s t y ready admits g (first-inside m (treeOf m) (width ks) (λ z h q. network-ok m z q) y (omega arith) ready gate s t admits)
 
-        pub second-starts : {n : ℕ} → n ≡ cells b → Starts m b n (rest (8 * c) w₃) net₁ e₁
+        pub second-starts : {n : ℕ} → n ≡ cells b → Starts m b n (rest (8 * c) w₃) (e₁ .next)
         second-starts e =
-            let i = j .fits .numbers in
-            let u = j .fits .room in
-            let p = first-done .count in
-            let d = first-done .put .bytes .len in
-            child-starts second-lent (B .limits) e second-stage second-ready-here (record { numbers = omega arith; room = omega arith })
+            let i = j .numbers in
+            let p = first-done .put .extent .next in
+            child-starts second-lent (B .limits) e second-stage second-ready-here (omega arith)
 
         pub second-fewer : 2 * width b + 1 < 2 * width ks
         second-fewer = falls second-lent
 
-        pub second-back : {v′ net₂ : List ℕ} {e₂ : ℕ} → Written b (treeOf m (stageAt b (rest (8 * c) w₃) 0 (cells b))) (rest (8 * c) w₃) net₁ e₁ e₂ v′ net₂
+        pub second-back : {v′ net₂ : List ℕ} {e₂ : Extent} → Written b (treeOf m (stageAt b (rest (8 * c) w₃) 0 (cells b))) (rest (8 * c) w₃) net₁ (e₁ .next) e₂ v′ net₂
             → Back (8 * c) w₃ v′ (putMid (8 * c) (length w₃ - 8 * c) w₃ v′)
         second-back x′ = child-back second-lent (x′ .len)
 
         -- both are done
-        module _ {v′ net₂ w₄ : List ℕ} {e₂ : ℕ} (x′ : Written b (treeOf m (stageAt b (rest (8 * c) w₃) 0 (cells b))) (rest (8 * c) w₃) net₁ e₁ e₂ v′ net₂)
+        module _ {v′ net₂ w₄ : List ℕ} {e₂ : Extent} (x′ : Written b (treeOf m (stageAt b (rest (8 * c) w₃) 0 (cells b))) (rest (8 * c) w₃) net₁ (e₁ .next) e₂ v′ net₂)
             (k′ : Back (8 * c) w₃ v′ w₄) where
-          second-done : Written (B .ks) (treeOf m B) (rest (8 * c) w₃) net₁ e₁ e₂ v′ net₂
+          second-done : Written (B .ks) (treeOf m B) (rest (8 * c) w₃) net₁ (e₁ .next) e₂ v′ net₂
           second-done = written-as m B second-stage x′
 
-          pub close-room : CloseRoom w₄ net₂ ks b c e₁ e₂
+          pub close-room : JoinedRoom w₄ ks b c × GateRoom e₁ e₂
           close-room =
               let h = behind (lent b w₄ without-s (z .places) (k′ .len ∙ whole-length)) in
-              let o = j .left .own .own in
-              let i = j .fits .numbers in
-              let u = j .fits .room in
-              let p = first-done .count in
-              let p′ = second-done .count in
-              let d = first-done .put .bytes .len in
-              let d′ = second-done .put .bytes .len in
-              let some = size-pos (treeOf m A) in
-              let some′ = size-pos (treeOf m B) in
-              record {
-                work =
-                    record {
-                      own = record { shaped = j .left .own .shaped; own = o; room = omega arith };
-                      shaped = as-shaped (z .places) (fewer-shaped s (j .left .own .shaped));
-                      block = omega arith;
-                    };
-                first = omega arith;
-                second = omega arith;
-                network = omega arith;
-                numbers = omega arith;
-              }
+              let o = j .left .own .own in (
+                record {
+                  own = record { shaped = j .left .own .shaped; own = o; room = omega arith };
+                  shaped = as-shaped (z .places) (fewer-shaped s (j .left .own .shaped));
+                  block = omega arith;
+                },
+                gate-room (first-done .put .extent) (second-done .put .extent) (let i = j .numbers in omega arith),
+              )
 
           first-part : part w₄ (6 * c) (cells ks) ≡ moved (A .ks) ks (computed (A .ks) (treeOf m A))
           first-part =
@@ -235,14 +207,10 @@ module _ {gate : Gate} {m : ℕ} {ks : List ℕ} {l : Limits} {s t c : ℕ} {w n
           second-part =
               ap₂ (λ (p q : List ℕ). moved p ks q) (z .places) (child-function second-lent k′ (second-done .function))
 
-          pub joined-whole : {n : ℕ} {w₅ net₃ : List ℕ} → Closed gate ks b c e₁ e₂ w₄ net₂ n w₅ net₃ → Written ks (joinTree m (treeOf m) gate s t y) w net r n w₅ net₃
-          joined-whole {n} {w₅} {net₃} d =
-              let p = first-done .count in
-              let p′ = second-done .count in
-              let i = d .next in
+          pub joined-whole : {of : Extent} {w₅ net₃ : List ℕ} → Closed gate ks b c e₁ e₂ w₄ net₂ of w₅ net₃ → Written ks (joinTree m (treeOf m) gate s t y) w net r of w₅ net₃
+          joined-whole d =
               record {
-                count = omega arith;
-                put = gate-put (treeOf m A) (treeOf m B) (first-done .put) p (second-done .put) p′ (d .put);
+                put = tree-gate (first-done .put) (second-done .put) (d .gate);
                 function =
                     d .function .here
                     ∙ ap₂ (λ (p q : List ℕ). tabulate (cells ks) (λ i. combine gate (at p i) (at q i))) first-part second-part

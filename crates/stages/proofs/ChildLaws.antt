@@ -17,7 +17,8 @@ use Rattle.grouping.specs.Joining.{stageAt}
 use Rattle.stage_drops.specs.Working.{Proper}
 use Rattle.stage_blocks.specs.Blocks.{stageOf}
 use Rattle.stage_drops.proofs.DropLaws.{fewer-shaped}
-use Rattle.stages.specs.Staging.{Fits, Starts, Written, Left}
+use Rattle.stage_steps.specs.declared.gates.Extent.{Extent}
+use Rattle.stages.specs.Staging.{Numbered, Starts, Written, Left}
 use Rattle.stages.proofs.LentLaws.{rest, rest-length, rest-stage, Back, back, back-behind}
 
 pub proper-ready : {m : ℕ} {x : Stage} → Positive (x .ks) → Proper m x → Ready m x
@@ -32,19 +33,19 @@ few-without t ks h i =
 
 -- what the buffer holds is the stage A
 module _ (m : ℕ) {a w : List ℕ} (A : Stage) (e : stageAt a w 0 (cells a) ≡ A) where
-  pub starts-as : {c : ℕ} {net : List ℕ} {r : ℕ} → c ≡ cells a → Shaped (A .ks) → ((i : ℕ) → card (A .ks) i ≤ 8) → 16 * cells (A .ks) ≤ length w → Ready m A → Fits (treeOf m A) net r → Starts m a c w net r
-  starts-as {c} {net} {r} o s f l p t =
+  pub starts-as : {c r : ℕ} → c ≡ cells a → Shaped (A .ks) → ((i : ℕ) → card (A .ks) i ≤ 8) → 16 * cells (A .ks) ≤ length w → Ready m A → Numbered (treeOf m A) r → Starts m a c w r
+  starts-as {c} {r} o s f l p t =
       record {
         own = o;
         shaped = subst (λ (x : Stage). Shaped (x .ks)) (sym e) s;
         few = subst (λ (x : Stage). (i : ℕ) → card (x .ks) i ≤ 8) (sym e) f;
         work = subst (λ (x : Stage). 16 * cells (x .ks) ≤ length w) (sym e) l;
         proper = subst (Proper m) (sym e) (ready-proper p);
-        fits = subst (λ (x : Stage). Fits (treeOf m x) net r) (sym e) t;
+        numbers = subst (λ (x : Stage). Numbered (treeOf m x) r) (sym e) t;
       }
 
-  pub written-as : {net : List ℕ} {r q : ℕ} {w′ net′ : List ℕ} → Written a (treeOf m (stageAt a w 0 (cells a))) w net r q w′ net′ → Written (A .ks) (treeOf m A) w net r q w′ net′
-  written-as {net} {r} {q} {w′} {net′} h = subst (λ (x : Stage). Written (x .ks) (treeOf m x) w net r q w′ net′) e h
+  pub written-as : {net : List ℕ} {r : ℕ} {of : Extent} {w′ net′ : List ℕ} → Written a (treeOf m (stageAt a w 0 (cells a))) w net r of w′ net′ → Written (A .ks) (treeOf m A) w net r of w′ net′
+  written-as {net} {r} {of} {w′} {net′} h = subst (λ (x : Stage). Written (x .ks) (treeOf m x) w net r of w′ net′) e h
 
 -- fewer conditions and half of the cells at most
 pub record Smaller (ks : List ℕ) (d : ℕ) : Type 0 where
@@ -79,8 +80,8 @@ module _ {m : ℕ} {y : Stage} {c : ℕ} {w : List ℕ} {d : ℕ} {a v : List �
   pub child-stage : {A : Stage} → stageAt a v (8 * c) (8 * c + cells a) ≡ A → stageAt a (rest (8 * c) v) 0 (cells a) ≡ A
   child-stage q = rest-stage (8 * c) a v behind ∙ q
 
-  pub child-starts : {k : ℕ} {net : List ℕ} {r : ℕ} (l : Limits) → k ≡ cells a → stageAt a (rest (8 * c) v) 0 (cells a) ≡ stageOf (without d (y .ks)) l
-      → Ready m (stageOf (without d (y .ks)) l) → Fits (treeOf m (stageOf (without d (y .ks)) l)) net r → Starts m a k (rest (8 * c) v) net r
+  pub child-starts : {k r : ℕ} (l : Limits) → k ≡ cells a → stageAt a (rest (8 * c) v) 0 (cells a) ≡ stageOf (without d (y .ks)) l
+      → Ready m (stageOf (without d (y .ks)) l) → Numbered (treeOf m (stageOf (without d (y .ks)) l)) r → Starts m a k (rest (8 * c) v) r
   child-starts l i q p f =
       let h = behind in
       let o = z .left .own .own in

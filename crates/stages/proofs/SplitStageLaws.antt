@@ -1,111 +1,107 @@
 -- 01, Stages, step 6: the stages of a split's values, one behind the other.
-use Prim.Native.Nat.{ℕ, zero, suc, _+_, _-_, _*_, _≤_, _<_}
+use Prim.Native.Nat.{ℕ, zero, suc, _+_, _-_, _*_, _/_, _≤_, _<_}
 use mathlib.Core.Path.{_≡_, refl, sym, _∙_, ap, ap₂, subst}
-use mathlib.Core.List.{List, [], _∷_, _++_, append-assoc}
+use mathlib.Core.List.{List}
 use mathlib.Core.Logic.{inr}
 use native.Mathlib.Nat.{add-zero, le-refl, mul-le-mul-right}
 use native.Mathlib.Omega.{arith}
 use borrow.Rule.Slice.PartMut.{putMid}
 use borrow.Author.Count.{below-more}
 use lib.Dec.{eqb}
-use lib.ListN.{length, length-append}
+use lib.ListN.{length}
 use lib.Seq.{ext-getD}
-use Rattle.rules.specs.declared.Gate.the-variants.{Min, Max}
+use Rattle.rules.specs.declared.Gate.the-variants.{Max}
 use Rattle.rules.specs.Bytes.{at, pick, tabulate}
 use Rattle.rules.specs.Cell.{cells, card, width, lowest, value, remap, singleton, without}
 use Rattle.rules.specs.Limits.{Limits}
-use Rattle.rules.specs.Network.{Record, literal, gate}
-use Rattle.rules.specs.Tree.{Tree, size, records}
-use Rattle.rules.specs.Stage.{Stage, split, cofactorStage, computed, selector, splitTo, choiceTree, treeOf}
+use Rattle.rules.specs.Tree.{Tree, lookup, gated, size}
+use Rattle.rules.specs.Stage.{Stage, split, cofactorStage, computed, selector, splitPart, splitTo, choiceTree, treeOf}
+use Rattle.laws.proofs.TestLaws.{by-order}
 use Rattle.laws.proofs.TableLaws.{length-tabulateFrom}
 use Rattle.laws.proofs.CellLaws.{value-lt, cell-lt, present-lt, without-pos}
-use Rattle.laws.proofs.LowestLaws.{lowest-two, lowest-cells, lowest-cell, lowest-present, lowest-fewer, lowest-digit}
-use Rattle.laws.proofs.LoopLaws.{part-records, split-records}
-use Rattle.laws.proofs.TreeLaws.{length-records, size-pos}
+use Rattle.laws.proofs.LowestLaws.{lowest-two, lowest-cells, lowest-div, lowest-cell, lowest-present, lowest-fewer, lowest-digit}
 use Rattle.laws.proofs.StageLaws.{Ready, cofactor-ready, cofactor-lt}
 use Rattle.laws.proofs.FunctionLaws.{splitted}
+use Rattle.places.specs.declared.sets.Condition.{Condition}
+use Rattle.places.specs.Conditions.{IsLowest}
 use Rattle.tables.specs.Part.{part, Laid, Apart, Two}
 use Rattle.tables.specs.Line.{Spread}
 use Rattle.tables.proofs.PartLaws.{part-at, part-same, part-length, laid-part}
 use Rattle.grouping.specs.Joining.{stageAt}
 use Rattle.stage_drops.specs.Working.{frontStage}
-use Rattle.stage_steps.specs.Putting.{Put}
-use Rattle.stage_steps.specs.Values.{valueCells, valueGates, ValueRoom, ValueBegun, GateRoom, GatesPut}
-use Rattle.stage_steps.proofs.PutLaws.{put-none, put-then, put-as}
+use Rattle.stage_steps.specs.declared.gates.Extent.{Extent}
+use Rattle.stage_steps.specs.Extents.{TreePut}
+use Rattle.stage_steps.specs.Values.{valueCells, ValueRoom, ValueBegun, EndRoom, ValueEnded}
+use Rattle.stage_steps.proofs.ExtentLaws.{gate-room, gate-extent, tree-gate}
 use Rattle.stages.specs.Staging.{Starts, Written, Splits}
 use Rattle.stages.proofs.LentLaws.{rest, Back, back}
 use Rattle.stages.proofs.ChildLaws.{proper-ready, written-as, Smaller, Lent, falls, child-stage, child-starts, child-back, child-function}
 
--- the records of the values below k
-abbrev pub soFar : ℕ → Stage → ℕ → ℕ → List Record
-soFar m x r zero = []
-soFar m x r (suc k) = records (splitTo m (treeOf m) x k) r
-
-module _ (m : ℕ) (x : Stage) (r : ℕ) where
+-- the tree of the values up to k, and of those before it
+module _ (m : ℕ) (x : Stage) where
   abbrev child : ℕ → Tree
   child k = treeOf m (cofactorStage k x)
 
-  -- those of value k, the first of them numbered a
-  abbrev pub ofValue : ℕ → ℕ → List Record
-  ofValue k a = records (selector m (x .ks) k) a ++ (records (child k) (a + 1) ++ valueGates k a (a + 1 + size (child k)))
+  abbrev pub part-tree : ℕ → Tree
+  part-tree k = splitPart m (treeOf m) x k
 
-  pub so-far-next : (k : ℕ) → soFar m x r (suc k) ≡ soFar m x r k ++ ofValue k (r + length (soFar m x r k))
-  so-far-next zero =
-      let e : r + size (child 0) ≡ r + 1 + size (child 0) - 1 = omega arith in
-      part-records m (treeOf m) x 0 r
-      ∙ ap (λ (n : ℕ). records (selector m (x .ks) 0) r ++ (records (child 0) (r + 1) ++ (gate Min r n ∷ []))) e
-      ∙ ap (ofValue 0) (sym (add-zero r))
-  so-far-next (suc k) =
-      let done : List Record = records (splitTo m (treeOf m) x k) r in
-      let a : ℕ = r + size (splitTo m (treeOf m) x k) in
-      let c : ℕ = size (child (suc k)) in
-      let literals : List Record = records (selector m (x .ks) (suc k)) a in
-      let block : List Record = records (child (suc k)) (a + 1) in
-      let e : a + c ≡ a + 1 + c - 1 = omega arith in
-      let f : a + c + 1 ≡ a + 1 + c = omega arith in
-      split-records m (treeOf m) x k r
-      ∙ append-assoc done (literals ++ (block ++ (gate Min a (a + c) ∷ []))) (gate Max (a - 1) (a + c + 1) ∷ [])
-      ∙ ap (λ (q : List Record). done ++ (literals ++ q)) (append-assoc block (gate Min a (a + c) ∷ []) (gate Max (a - 1) (a + c + 1) ∷ []))
-      ∙ ap₂ (λ (p q : ℕ). done ++ (literals ++ (block ++ (gate Min a p ∷ gate Max (a - 1) q ∷ [])))) e f
-      ∙ ap (λ (n : ℕ). done ++ ofValue (suc k) (r + n)) (sym (length-records (splitTo m (treeOf m) x k) r))
+  abbrev pub up-to : ℕ → Tree
+  up-to k = splitTo m (treeOf m) x k
 
-  pub length-next : (k a e : ℕ) → length (soFar m x r (suc k)) ≡ length (soFar m x r k) + (1 + (size (child k) + length (valueGates k a e)))
-  length-next k a e =
-      let s : ℕ = r + length (soFar m x r k) in
-      omega (
-        arith,
-        ap length (so-far-next k),
-        length-append (soFar m x r k) (ofValue k s),
-        length-append (records (child k) (s + 1)) (valueGates k s (s + 1 + size (child k))),
-        length-records (child k) (s + 1),
-        same k s (s + 1 + size (child k)) a e,
-      )
-    where
-      same : (k a e a′ e′ : ℕ) → length (valueGates k a e) ≡ length (valueGates k a′ e′)
-      same zero a e a′ e′ = refl
-      same (suc k) a e a′ e′ = refl
+  split-next : (k : ℕ) → 0 < k → up-to k ≡ gated Max (up-to (k - 1)) (part-tree k)
+  split-next zero h = absurd (omega arith)
+  split-next (suc k) h = let e : k ≡ suc k - 1 = omega arith in ap (λ (n : ℕ). gated Max (up-to n) (part-tree (suc k))) e
 
-  -- no more than all values have
-  size-up : (d k : ℕ) → size (splitTo m (treeOf m) x k) ≤ size (splitTo m (treeOf m) x (k + d))
-  size-up zero k = subst (λ (n : ℕ). size (splitTo m (treeOf m) x k) ≤ size (splitTo m (treeOf m) x n)) (sym (add-zero k)) (le-refl _)
+  -- no more records than all values have
+  size-up : (d k : ℕ) → size (up-to k) ≤ size (up-to (k + d))
+  size-up zero k = subst (λ (n : ℕ). size (up-to k) ≤ size (up-to n)) (sym (add-zero k)) (le-refl _)
   size-up (suc d) k =
       let e : suc (k + d) ≡ k + suc d = omega arith in
-      subst (λ (n : ℕ). size (splitTo m (treeOf m) x k) ≤ size (splitTo m (treeOf m) x n)) e (let h = size-up d k in omega arith)
+      subst (λ (n : ℕ). size (up-to k) ≤ size (up-to n)) e (let h = size-up d k in omega arith)
 
-  pub so-far-most : (k v : ℕ) → k < v → length (soFar m x r (suc k)) ≤ size (splitTo m (treeOf m) x (v - 1))
-  so-far-most k v h =
-      let e : k + (v - 1 - k) ≡ v - 1 = omega arith in
-      let u = subst (λ (n : ℕ). size (splitTo m (treeOf m) x k) ≤ size (splitTo m (treeOf m) x n)) e (size-up (v - 1 - k) k) in
-      let l = length-records (splitTo m (treeOf m) x k) r in
-      omega arith
+  size-most : (k v : ℕ) → k < v → size (up-to k) ≤ size (up-to (v - 1))
+  size-most k v h = let e : k + (v - 1 - k) ≡ v - 1 = omega arith in subst (λ (n : ℕ). size (up-to k) ≤ size (up-to n)) e (size-up (v - 1 - k) k)
 
-  pub so-far-all : (v : ℕ) → 0 < v → soFar m x r v ≡ records (splitTo m (treeOf m) x (v - 1)) r
-  so-far-all zero h = absurd (omega arith)
-  so-far-all (suc v) h = let e : v ≡ suc v - 1 = omega arith in ap (λ (n : ℕ). records (splitTo m (treeOf m) x n) r) e
+  -- the network of the values below k
+  pub record SoFar (net₀ : List ℕ) (r k : ℕ) (total : Extent) (net : List ℕ) : Type 0 where
+    pub none : k ≡ 0 → (total .next ≡ r) × (net ≡ net₀)
+    pub some : 0 < k → TreePut (up-to (k - 1)) net₀ r total net
 
-  pub so-far-some : (k : ℕ) → 0 < k → 0 < length (soFar m x r k)
-  so-far-some zero h = absurd (omega arith)
-  so-far-some (suc k) h = let l = length-records (splitTo m (treeOf m) x k) r in let p = size-pos (splitTo m (treeOf m) x k) in omega arith
+  -- the one of value k follows: its records are those of the values up to k
+  module _ {net₀ : List ℕ} {r k : ℕ} {total : Extent} {net : List ℕ} (u : SoFar net₀ r k total net) where
+    next-size : total .next + size (part-tree k) ≤ r + size (up-to k)
+    next-size = by-order k 0 (λ z. go k u (omega arith)) (λ h. let e = ap size (split-next k h) in let f = u .some h .extent .next in omega arith)
+      where
+        go : (k : ℕ) → SoFar net₀ r k total net → k ≡ 0 → total .next + size (part-tree k) ≤ r + size (up-to k)
+        go zero u z = let f = u .none refl .0 in omega arith
+        go (suc k) u z = absurd (omega arith)
+
+    module _ {literal of : Extent} {v net₁ : List ℕ} (p : TreePut (selector m (x .ks) k) net (total .next) literal v) (q : TreePut (child k) v (literal .next) of net₁)
+        (few : r + size (up-to k) ≤ 65536) where
+      end-room : EndRoom k total literal of
+      end-room =
+          let n = next-size in
+          record {
+            least = gate-room (p .extent) (q .extent) (omega arith);
+            greatest = λ h g.
+                gate-room (u .some h .extent) (gate-extent (p .extent) (q .extent) g) (let e = ap size (split-next k h) in omega arith);
+          }
+
+      so-far-more : {of′ : Extent} {net′ : List ℕ} → ValueEnded k total literal of net₁ of′ net′ → SoFar net₀ r (k + 1) of′ net′
+      so-far-more {of′} {net′} e =
+          record { none = λ z. absurd (omega arith); some = λ h. let i : k ≡ k + 1 - 1 = omega arith in subst (λ (n : ℕ). TreePut (up-to n) net₀ r of′ net′) i whole }
+        where
+          first : (k : ℕ) → k ≡ 0 → SoFar net₀ r k total net → TreePut (part-tree k) net (total .next) of′ net′ → TreePut (up-to k) net₀ r of′ net′
+          first zero z u t = let n = u .none refl in subst (λ (w : List ℕ). TreePut (part-tree 0) w r of′ net′) (n .1) (subst (λ (a : ℕ). TreePut (part-tree 0) net a of′ net′) (n .0) t)
+          first (suc k) z u t = absurd (omega arith)
+
+          whole : TreePut (up-to k) net₀ r of′ net′
+          whole =
+              by-order k 0
+              (λ z. let o : k ≡ 0 = omega arith in first k o u (tree-gate p q (e .first o)))
+              (λ h.
+              let g = e .later h in
+              subst (λ (t : Tree). TreePut t net₀ r of′ net′) (sym (split-next k h)) (tree-gate (u .some h) (tree-gate p q (g .least)) (g .greatest)))
 
 -- what a split reads off its places: the lowest condition i, the places b without it, their n cells, and its values
 pub record Axis (ks : List ℕ) (i : ℕ) (b : List ℕ) (n values : ℕ) : Type 0 where
@@ -115,18 +111,30 @@ pub record Axis (ks : List ℕ) (i : ℕ) (b : List ℕ) (n values : ℕ) : Type
   pub cardinality : values ≡ card ks (lowest ks)
 
 -- the values below k are done
-pub record Turn (m : ℕ) (ks : List ℕ) (c : ℕ) (w₀ net₀ : List ℕ) (r k next : ℕ) (w net : List ℕ) : Type 0 where
-  pub put : Put net₀ r (soFar m (frontStage ks w₀) r k) net
-  pub count : next ≡ r + length (soFar m (frontStage ks w₀) r k)
+pub record Turn (m : ℕ) (ks : List ℕ) (c : ℕ) (w₀ net₀ : List ℕ) (r k : ℕ) (total : Extent) (w net : List ℕ) : Type 0 where
+  pub so-far : SoFar m (frontStage ks w₀) net₀ r k total net
   pub stage : frontStage ks w ≡ frontStage ks w₀
   pub done : (q j : ℕ) → q < k → j < cells (without (singleton (lowest ks)) ks)
       → at w (2 * c + q + card ks (lowest ks) * j) ≡ at (computed (without (singleton (lowest ks)) ks) (treeOf m (cofactorStage q (frontStage ks w₀)))) j
   pub len : length w ≡ length w₀
 
-pub turn-none : (m : ℕ) (ks : List ℕ) (c : ℕ) (w net : List ℕ) (r : ℕ) → Turn m ks c w net r 0 r w net
-turn-none m ks c w net r = record { put = put-none net r; count = sym (add-zero r); stage = refl; done = λ q j h. absurd (omega arith); len = refl }
+pub turn-none : (m : ℕ) (ks : List ℕ) (c : ℕ) (w net : List ℕ) (r : ℕ) → Turn m ks c w net r 0 (record { next = r; depth = 0 }) w net
+turn-none m ks c w net r =
+    record {
+      so-far = record { none = λ z. (refl, refl); some = λ h. absurd (omega arith) };
+      stage = refl;
+      done = λ q j h. absurd (omega arith);
+      len = refl;
+    }
 
-module _ {m : ℕ} {ks : List ℕ} {c : ℕ} {w₀ net₀ : List ℕ} {r : ℕ} (h : Splits m ks c w₀ net₀ r) where
+-- value k in turn
+pub record InTurn (m : ℕ) (ks : List ℕ) (c : ℕ) (w₀ net₀ : List ℕ) (r i : ℕ) (b : List ℕ) (n values k : ℕ) (total : Extent) (w net : List ℕ) : Type 0 where
+  pub splits : Splits m ks c w₀ r
+  pub axis : Axis ks i b n values
+  pub turn : Turn m ks c w₀ net₀ r k total w net
+  pub below : k < values
+
+module _ {m : ℕ} {ks : List ℕ} {c : ℕ} {w₀ : List ℕ} {r : ℕ} (h : Splits m ks c w₀ r) where
   abbrev x : Stage
   x = frontStage ks w₀
 
@@ -148,8 +156,23 @@ module _ {m : ℕ} {ks : List ℕ} {c : ℕ} {w₀ net₀ : List ℕ} {r : ℕ} 
       let l = mul-le-mul-right (cells b) (lowest-two ks (ready .pos) some) in
       record { half = omega arith; fewer = lowest-fewer ks (ready .pos) some }
 
-  pub lowest-below : length ks ≡ 8 → lowest ks < 8
-  lowest-below e = let l = present-lt ks (lowest ks) (lowest-present ks (ready .pos) some) in omega arith
+  -- so from the lowest condition, by its number and its values
+  module _ {low : Condition} (is : IsLowest ks low) where
+    pub number-below : length ks ≡ 8 → low .number < 8
+    number-below e = let l = present-lt ks (lowest ks) (lowest-present ks (ready .pos) some) in let n = is .number in omega arith
+
+    pub values-some : 0 < low .values
+    values-some = let t = lowest-two ks (ready .pos) some in let v = is .values in omega arith
+
+    pub axis : {b₀ : List ℕ} → b₀ ≡ without (singleton (low .number)) ks → Axis ks (low .number) b₀ (c / low .values) (low .values)
+    axis e =
+        let p = e ∙ ap (λ (i : ℕ). without (singleton i) ks) (is .number) in
+        record {
+          index = is .number;
+          places = p;
+          count = ap₂ (λ (x y : ℕ). x / y) (h .left .own .own) (is .values) ∙ lowest-div ks (ready .pos) some ∙ ap cells (sym p);
+          cardinality = is .values;
+        }
 
   module _ {i : ℕ} {b₀ : List ℕ} {n values : ℕ} (a : Axis ks i b₀ n values) where
     cell-count : n ≡ cells b
@@ -159,32 +182,28 @@ module _ {m : ℕ} {ks : List ℕ} {c : ℕ} {w₀ net₀ : List ℕ} {r : ℕ} 
     all-cells = ap₂ (λ (p q : ℕ). p * q) (a .cardinality) cell-count ∙ lowest-cells ks (ready .pos) some
 
     -- value k in turn
-    module _ {k next : ℕ} {w net : List ℕ} (u : Turn m ks c w₀ net₀ r k next w net) (lt : k < values) where
-      -- the record behind its gates
-      room-for : (a e : ℕ) → next + (1 + (size (treeOf m (cofactorStage k x)) + length (valueGates k a e))) ≤ r + size (splitTo m (treeOf m) x (v - 1))
-      room-for p e =
-          let d = u .count in
-          let q = a .cardinality in
-          let l = length-next m x r k p e in
-          let g = so-far-most m x r k v (omega arith) in
-          omega arith
+    module _ {net₀ : List ℕ} {k : ℕ} {total : Extent} {w net : List ℕ} (u : Turn m ks c w₀ net₀ r k total w net) (lt : k < values) where
+      -- the numbers of its records
+      few : r + size (up-to m x k) ≤ 65536
+      few = let q = a .cardinality in let g = size-most m x k v (omega arith) in let j = h .numbers in omega arith
 
-      pub value-room : ValueRoom w net n values c k next
+      part-few : total .next + size (part-tree m x k) ≤ 65536
+      part-few = let f = few in let n = next-size m x (u .so-far) in omega arith
+
+      pub value-room : ValueRoom w n values c k (total .next)
       value-room =
           let f = h .left .few (lowest ks) in
           let q = a .cardinality in
           let o = h .left .own .own in
           let s = h .left .work in
-          let t = h .fits .room in
           let d = u .len in
-          let e = u .put .bytes .len in
-          let g = room-for 0 0 in
+          let g = part-few in
           let p = small .half in
           let z = cell-count in
           let y = all-cells in
-          record { below = lt; few = omega arith; own = omega arith; work = omega arith; network = omega arith }
+          record { below = lt; few = omega arith; own = omega arith; work = omega arith; number = omega arith }
 
-      module _ {w₁ net₁ : List ℕ} (g : ValueBegun i values n c k (m - 1) w net next w₁ net₁) where
+      module _ {literal : Extent} {w₁ net₁ : List ℕ} (g : ValueBegun i values n c k (m - 1) w net (total .next) literal w₁ net₁) where
         length-one : length w₁ ≡ length w₀
         length-one = g .len ∙ u .len
 
@@ -212,36 +231,27 @@ module _ {m : ℕ} {ks : List ℕ} {c : ℕ} {w₀ net₀ : List ℕ} {r : ℕ} 
         pub value-fewer : 2 * width b₀ + 1 < 2 * width ks
         value-fewer = falls value-lent
 
-        pub value-starts : Starts m b₀ n (rest (8 * c) w₁) net₁ (next + 1)
+        pub value-starts : Starts m b₀ n (rest (8 * c) w₁) (literal .next)
         value-starts =
-            let z = room-for 0 0 in
-            let e = u .put .bytes .len in
-            let f = g .put .bytes .len in
-            let j = h .fits .numbers in
-            let q = h .fits .room in
             let y = a .cardinality in
             child-starts value-lent (cofactorStage k x .limits) (a .count) value-stage (cofactor-ready x (ready .pos) some k m ready (omega arith))
-            (record { numbers = omega arith; room = omega arith })
+            (let z = part-few in let f = g .put .extent .next in omega arith)
 
         -- its stage is done
-        module _ {v′ net₂ : List ℕ} {e : ℕ} (y : Written b₀ (treeOf m (stageAt b₀ (rest (8 * c) w₁) 0 (cells b₀))) (rest (8 * c) w₁) net₁ (next + 1) e v′ net₂) where
-          child-done : Written b (treeOf m (cofactorStage k x)) (rest (8 * c) w₁) net₁ (next + 1) e v′ net₂
+        module _ {v′ net₂ : List ℕ} {of : Extent} (y : Written b₀ (treeOf m (stageAt b₀ (rest (8 * c) w₁) 0 (cells b₀))) (rest (8 * c) w₁) net₁ (literal .next) of v′ net₂) where
+          child-done : Written b (treeOf m (cofactorStage k x)) (rest (8 * c) w₁) net₁ (literal .next) of v′ net₂
           child-done = written-as m (cofactorStage k x) value-stage y
+
+          selected : TreePut (selector m ks k) net (total .next) literal net₁
+          selected =
+              subst (λ (t : Tree). TreePut t net (total .next) literal net₁)
+              (ap₂ (λ (p q : ℕ). lookup p (tabulate q (λ z. pick (eqb z k) (m - 1) 0))) (a .index) (a .cardinality)) (g .put)
 
           pub value-back : Back (8 * c) w₁ v′ (putMid (8 * c) (length w₁ - 8 * c) w₁ v′)
           value-back = child-back value-lent (y .len)
 
-          pub gate-room : GateRoom net₂ k next e
-          gate-room =
-              let d = child-done .count in
-              let p = size-pos (treeOf m (cofactorStage k x)) in
-              let z = room-for next e in
-              let l = u .put .bytes .len in
-              let l₁ = g .put .bytes .len in
-              let l₂ = child-done .put .bytes .len in
-              let j = h .fits .numbers in
-              let q = h .fits .room in
-              record { after = omega arith; values = λ o. let f = so-far-some m x r k o in let c = u .count in omega arith; network = omega arith; numbers = omega arith }
+          pub gates-room : EndRoom k total literal of
+          gates-room = end-room m x (u .so-far) selected (child-done .put) few
 
           module _ {w₂ : List ℕ} (z : Back (8 * c) w₁ v′ w₂) where
             length-two : length w₂ ≡ length w₀
@@ -295,13 +305,11 @@ module _ {m : ℕ} {ks : List ℕ} {c : ℕ} {w₀ net₀ : List ℕ} {r : ℕ} 
                   let n = cell-count in
                   ap (λ (p : ℕ). at w₃ (2 * c + k + p * j)) (sym (a .cardinality)) ∙ f .on j (omega arith) ∙ child-table j l
 
-              pub turn-more : {next′ : ℕ} {net₃ : List ℕ} → GatesPut k next e net₂ next′ net₃ → Turn m ks c w₀ net₀ r (k + 1) next′ w₃ net₃
-              turn-more {next′} {net₃} p =
+              pub turn-more : {total′ : Extent} {net₃ : List ℕ} → ValueEnded k total literal of net₂ total′ net₃ → Turn m ks c w₀ net₀ r (k + 1) total′ w₃ net₃
+              turn-more p =
                   let o = h .left .own .own in
-                  let up : suc k ≡ k + 1 = omega arith in
                   record {
-                    put = subst (λ (i : ℕ). Put net₀ r (soFar m x r i) net₃) up (put-as (sym (so-far-next m x r k)) all-put);
-                    count = subst (λ (i : ℕ). next′ ≡ r + length (soFar m x r i)) up (omega (arith, length-next m x r k next e, p .next, child-done .count, u .count));
+                    so-far = so-far-more m x (u .so-far) selected (child-done .put) few p;
                     stage = ap₂ (λ (l t : List ℕ). limited (record { lower = l; upper = t })) (kept-part 0 (omega arith)) (kept-part (cells ks) (omega arith)) ∙ u .stage;
                     done =
                         λ q j l lt.
@@ -313,25 +321,8 @@ module _ {m : ℕ} {ks : List ℕ} {c : ℕ} {w₀ net₀ : List ℕ} {r : ℕ} 
                   limited : Limits → Stage
                   limited l = record { ks = ks; limits = l }
 
-                  here : r + length (soFar m x r k) ≡ next
-                  here = sym (u .count)
-
-                  value-put : Put net next (ofValue m x r k next) net₃
-                  value-put =
-                      let d = child-done .count in
-                      let l = length-records (treeOf m (cofactorStage k x)) (next + 1) in
-                      put-then refl (selector-put (a .index) (a .cardinality) (g .put))
-                      (put-then (omega arith) (child-done .put) (subst (λ (i : ℕ). Put net₂ e (valueGates k next i) net₃) d (p .put)))
-                    where
-                      selector-put : i ≡ lowest ks → values ≡ v → Put net next (literal i (tabulate values (λ q. pick (eqb q k) (m - 1) 0)) ∷ []) net₁ → Put net next (records (selector m ks k) next) net₁
-                      selector-put ei ev o = put-as (ap₂ (λ (p q : ℕ). literal p (tabulate q (λ z. pick (eqb z k) (m - 1) 0)) ∷ []) ei ev) o
-
-                  all-put : Put net₀ r (soFar m x r k ++ ofValue m x r k (r + length (soFar m x r k))) net₃
-                  all-put =
-                      subst (λ (i : ℕ). Put net₀ r (soFar m x r k ++ ofValue m x r k i) net₃) (sym here) (put-then (u .count) (u .put) value-put)
-
     -- all values done, and their functions copied to the front
-    module _ {k next : ℕ} {w net : List ℕ} (u : Turn m ks c w₀ net₀ r k next w net) (e : k ≡ values) where
+    module _ {net₀ : List ℕ} {k : ℕ} {total : Extent} {w net : List ℕ} (u : Turn m ks c w₀ net₀ r k total w net) (e : k ≡ values) where
       pub copy-room : Two w (2 * c) 0 (values * n)
       copy-room =
           let o = h .left .own .own in
@@ -340,16 +331,15 @@ module _ {m : ℕ} {ks : List ℕ} {c : ℕ} {w₀ net₀ : List ℕ} {r : ℕ} 
           let y = all-cells in
           record { src = omega arith; dst = omega arith; apart = inr (omega arith) }
 
-      pub split-whole : {w′ : List ℕ} → Laid w 0 (part w (2 * c) (values * n)) (values * n) w′ → Written ks (choiceTree m (treeOf m) split x) w₀ net₀ r next w′ net
+      pub split-whole : {w′ : List ℕ} → Laid w 0 (part w (2 * c) (values * n)) (values * n) w′ → Written ks (choiceTree m (treeOf m) split x) w₀ net₀ r total w′ net
       split-whole {w′} l =
           let z = copy-room in
           let y = all-cells in
           let d = a .cardinality in
-          let whole : soFar m x r k ≡ records (choiceTree m (treeOf m) split x) r =
-          ap (soFar m x r) (e ∙ d) ∙ so-far-all m x r v (let t = lowest-two ks (ready .pos) some in omega arith) in
           record {
-            count = u .count ∙ ap (λ (q : List Record). r + length q) whole ∙ ap (λ (q : ℕ). r + q) (length-records (choiceTree m (treeOf m) split x) r);
-            put = put-as whole (u .put);
+            put =
+                subst (λ (q : ℕ). TreePut (up-to m x (q - 1)) net₀ r total net) (e ∙ d)
+                (u .so-far .some (let t = lowest-two ks (ready .pos) some in omega arith));
             function =
                 ap (part w′ 0) (sym y) ∙ laid-part l (let s = z .dst in omega arith) (part-length w (2 * c) (values * n) (z .src)) ∙ ap (part w (2 * c)) y ∙ all-values;
             len = l .len ∙ u .len;

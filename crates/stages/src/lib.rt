@@ -1,37 +1,48 @@
 // The stages of compiling a table. A stage joins or splits, and each starts stages with fewer conditions.
 use grouping::Sets;
 use places::sets;
+use places::sets::Condition;
 use rules::Gate;
 use rules::PLACES;
 use stage_choice::Choice;
 use stage_steps::ends;
+use stage_steps::gates::Extent;
 use stage_steps::values;
 use tables::fill;
 use tables::moves;
 ghost use Rattle.rules.specs.Stage.{split, choiceTree, treeOf};
+ghost use Rattle.places.specs.Conditions.{IsLowest};
 ghost use Rattle.stage_drops.specs.Working.{frontStage};
 ghost use Rattle.stages.specs.Staging.{Starts, Written, Splits, CanJoin, Joined};
 
 // Step 6: a stage for each value of the lowest condition, with a literal before it and gates behind it.
 // Their functions are collected in part 2.
-fn split(w: &mut [u8], network: &mut [u8], ks: [u8; PLACES], m: u8, c: usize, r: usize) -> usize
-    requires { ⌜ Splits m ks c (now w) (now network) r ⌝ }
-    ensures { λ e. ⌜ Written ks (choiceTree m (treeOf m) split (frontStage ks (now (w .entry)))) (now (w .entry)) (now (network .entry)) r e (now (w .exit)) (now (network .exit)) ⌝ }
+fn split(
+    w: &mut [u8],
+    network: &mut [u8],
+    ks: [u8; PLACES],
+    low: Condition,
+    m: u8,
+    c: usize,
+    r: usize,
+) -> Extent
+    requires { ⌜ Splits m ks c (now w) r × IsLowest ks low ⌝ }
+    ensures { λ of. ⌜ Written ks (choiceTree m (treeOf m) split (frontStage ks (now (w .entry)))) (now (w .entry)) (now (network .entry)) r of (now (w .exit)) (now (network .exit)) ⌝ }
 {
-    let i = sets::lowest(ks);
-    let b = sets::without(ks, sets::singleton(i));
-    let n = places::cell_count(b);
-    let values = ks[i] as usize;
+    let i = low.number;
+    let values = low.values;
+    let b = sets::without_one(ks, i);
+    let n = c / values;
     let rest = 8 * c;
-    let mut next = r;
+    let mut total = Extent { next: r, depth: 0 };
     for k in 0..values {
-        values::begin_value(w, network, i as u8, values, n, c, k, m - 1, next);
-        let e = stage(&mut w[rest..], network, b, n, m, next + 1);
+        let literal = values::begin_value(w, network, i as u8, values, n, c, k, m - 1, total.next);
+        let of = stage(&mut w[rest..], network, b, n, m, literal.next);
         moves::uncofactor(w, rest, 2 * c, n, values, k);
-        next = values::end_value(network, k, next, e);
+        total = values::end_value(network, k, total, literal, of);
     }
     fill::copy(w, 2 * c, 0, values * n);
-    next
+    total
 }
 
 // Step 5: a stage for each block, then the gate. The second block is made from the function of the
@@ -45,37 +56,51 @@ fn join(
     gate: Gate,
     of: Sets,
     r: usize,
-) -> usize
-    requires { ⌜ CanJoin gate m ks (of .s) (of .t) c (now w) (now network) r ⌝ }
-    ensures { λ e. ⌜ Joined gate m ks (of .s) (of .t) c (now (w .entry)) (now (network .entry)) r e (now (w .exit)) (now (network .exit)) ⌝ }
+) -> Extent
+    requires { ⌜ CanJoin gate m ks (of .s) (of .t) c (now w) r ⌝ }
+    ensures { λ n. ⌜ Joined gate m ks (of .s) (of .t) c (now (w .entry)) (now (network .entry)) r n (now (w .exit)) (now (network .exit)) ⌝ }
 {
     let rest = 8 * c;
     let a = stage_blocks::first_table(w, gate, m, ks, of.t, c);
     let first = stage(&mut w[rest..], network, a, places::cell_count(a), m, r);
     let b = stage_blocks::second_table(w, gate, m, ks, a, of.s, c);
-    let second = stage(&mut w[rest..], network, b, places::cell_count(b), m, first);
+    let second = stage(
+        &mut w[rest..],
+        network,
+        b,
+        places::cell_count(b),
+        m,
+        first.next,
+    );
     ends::close_join(w, network, gate, ks, b, c, first, second)
 }
 
 // The network of the stage over ks, of c cells, whose limits are at the front of the work buffer, as records
-// from r on: the next record. Its function is left at the front.
-pub fn stage(w: &mut [u8], network: &mut [u8], ks: [u8; PLACES], c: usize, m: u8, r: usize) -> usize
-    requires { ⌜ Starts m ks c (now w) (now network) r ⌝ }
-    ensures { λ e. ⌜ Written ks (treeOf m (frontStage ks (now (w .entry)))) (now (w .entry)) (now (network .entry)) r e (now (w .exit)) (now (network .exit)) ⌝ }
+// from r on where the network buffer has room. Its function is left at the front.
+pub fn stage(
+    w: &mut [u8],
+    network: &mut [u8],
+    ks: [u8; PLACES],
+    c: usize,
+    m: u8,
+    r: usize,
+) -> Extent
+    requires { ⌜ Starts m ks c (now w) r ⌝ }
+    ensures { λ of. ⌜ Written ks (treeOf m (frontStage ks (now (w .entry)))) (now (w .entry)) (now (network .entry)) r of (now (w .exit)) (now (network .exit)) ⌝ }
 {
     let kept = stage_drops::drop_all(w, ks, c);
     let left = kept.places;
     let n = kept.cells;
-    let i = sets::lowest(left);
-    if ends::narrow(left, i, n) {
-        ends::leaf(w, network, left, i, r);
+    let low = sets::lowest(left);
+    if low.values == n {
+        let of = ends::leaf(w, network, low, r);
         ends::spread(w, left, ks, n, c);
-        return r + 1;
+        return of;
     }
-    let e = match stage_choice::choose(w, left, m, n) {
-        Choice::Split => split(w, network, left, m, n, r),
-        Choice::Join(gate, of) => join(w, network, left, m, n, gate, of, r),
+    let of = match stage_choice::choose(w, left, m, n) {
+        Choice::Split => split(w, network, left, low, m, n, r),
+        Choice::Join(gate, sets) => join(w, network, left, m, n, gate, sets, r),
     };
     ends::spread(w, left, ks, n, c);
-    e
+    of
 }

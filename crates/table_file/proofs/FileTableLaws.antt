@@ -142,7 +142,7 @@ module _ (file : List ℕ) (s : Seen) (a : Accepted file s) where
       room : compileRoom (cells ks) (length lower′) (length upper′) work network ≡ true
       room =
           let long = limits-long in
-          and-both (and-both (long-enough (fileLimits file s .lower) (drop (cells ks) lower) low (long .0)) (and-both (long-enough (fileLimits file s .upper) (drop (cells ks) upper) high (long .1)) refl)) (and-both (le-leb _ _ work-room) (le-leb _ _ network-room))
+          and-both (and-both (and-both (long-enough (fileLimits file s .lower) (drop (cells ks) lower) low (long .0)) (and-both (long-enough (fileLimits file s .upper) (drop (cells ks) upper) high (long .1)) refl)) (le-leb _ _ work-room)) (le-leb _ _ network-room)
 
       pub file-compiles : compileCall (s .n) (s .cards) (s .m) (length lower′) (length upper′) work network (lentLimits ks lower′ upper′)
           ≡ accepted (compiledRecords ks (s .m) (fileLimits file s))

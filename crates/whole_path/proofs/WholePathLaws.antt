@@ -1,11 +1,11 @@
 -- From a table file to a grade: `whole-path` composes the promises of the calls for C.
 use Prim.Native.Nat.{ℕ, _*_, _/_, _≤_, _<_}
-use mathlib.Core.Path.{_≡_, refl, sym, ap, _∙_, subst}
-use mathlib.Core.Bool.{Bool, true, false, cond, _&&_}
+use mathlib.Core.Path.{_≡_, sym, ap, _∙_, subst}
+use mathlib.Core.Bool.{Bool, true, _&&_}
 use mathlib.Core.List.{List, [], _∷_, _++_}
 use native.Mathlib.Omega.{arith}
-use borrow.Author.Tests.{le-leb, lt-ltb, eqb-true}
-use lib.Dec.{T, leb, eqb}
+use borrow.Author.Tests.{le-leb, lt-ltb}
+use lib.Dec.{T, leb}
 use lib.ListN.{length, take, drop, length-take}
 use lib.Seq.{getD-take}
 use Rattle.rules.specs.declared.Refusal.the-variants.{ShapeRange, ShortBuffer, GradeLimits, Network, CellNumber}
@@ -15,12 +15,12 @@ use Rattle.rules.specs.Shape.{places}
 use Rattle.rules.specs.Limits.{Limits, limitsOf, limitsSound}
 use Rattle.rules.specs.Network.{Record, networkSound, evaluate}
 use Rattle.rules.specs.NetworkCalls.{checkFrom}
-use Rattle.rules.specs.Verdict.{Verdict, accepted, refused, verdictNumber, roomy}
+use Rattle.rules.specs.Verdict.{Verdict, accepted, verdictNumber, roomy}
 use Rattle.rules.specs.TableFile.{Seen, fileLimits, judgeFile, judgeReading}
 use Rattle.rules.specs.Demands.{Between, compiledRecords}
 use Rattle.rules.specs.CompileCall.{mostRecords, compileRoom, lentLimits}
 use Rattle.laws.proofs.TestLaws.{passes, passed, and-l, and-both}
-use Rattle.laws.proofs.VerdictLaws.{refused-accepted, row-pass, row-passed, last-passed}
+use Rattle.laws.proofs.VerdictLaws.{row-pass, row-passed, last-passed}
 use Rattle.laws.proofs.CompiledLaws.{few-compiled}
 use Rattle.shape.specs.declared.Shape.{Shape}
 use Rattle.shape.specs.Shapes.{placesOf, isSound, shapeFrom, shapeBytes}
@@ -37,19 +37,7 @@ use Rattle.panel_networks.specs.Compiles.{Compiles}
 use Rattle.panel_networks.specs.Checks.{Checks}
 use Rattle.panel_networks.specs.Evaluates.{Evaluates, evaluateRows}
 use Rattle.whole_path.specs.WholePath.{Followed, WholePath}
-use Rattle.panel_answers.proofs.ShapeLaws.{ten-lent}
-
--- a call whose number is no refusal's was accepted
-called : {A : Type 0} (v : Verdict A) (number : A → ℕ) → callNumber v number < 65536 → (x : A) × (v ≡ accepted x)
-called (accepted x) number h = (x, refl)
-called (refused q) number h = absurd (omega arith)
-
-lent-accepted : {A : Type 0} (bytes : List ℕ) (rows : Shape → Verdict A) {x : A} → lent bytes rows ≡ accepted x → (length bytes ≡ 10) × (rows (lentShape bytes) ≡ accepted x)
-lent-accepted bytes rows {x} e = go (eqb (length bytes) 10) refl e
-  where
-    go : (b : Bool) → eqb (length bytes) 10 ≡ b → cond b (rows (lentShape bytes)) (refused ShapeRange) ≡ accepted x → (length bytes ≡ 10) × (rows (lentShape bytes) ≡ accepted x)
-    go true q h = (eqb-true (length bytes) 10 q, h)
-    go false q h = refused-accepted h
+use Rattle.panel_answers.proofs.ShapeLaws.{called, lent-accepted, ten-lent}
 
 -- n records were compiled
 module _ (bytes lower upper work network : List ℕ) (n : ℕ) (work′ network′ : List ℕ) (done : Compiles bytes lower upper work network n work′ network′) (counted : n < 65536) where
@@ -102,7 +90,7 @@ module _ (bytes lower upper work network : List ℕ) (n : ℕ) (work′ network�
     checks-within after r found =
         let limit-room : Bool = roomy (cells ks) (length lower ∷ length upper ∷ []) in
         let both : (limit-room && leb (length net / 16) (length w)) ≡ true =
-        and-both (passed limit-room (and-l limit-room (leb (16 * cells ks) (length work) && leb (16 * mostRecords (cells ks)) (length network)) (pass .room))) roomy-work in
+        and-both (passed limit-room (and-l limit-room (leb (16 * cells ks) (length work)) (and-l (limit-room && leb (16 * cells ks) (length work)) (leb (16 * mostRecords (cells ks)) (length network)) (pass .room)))) roomy-work in
         let verdict : lent bytes (λ s. checkRows s net lower upper w) ≡ accepted (checkFrom ks (limitsOf lower upper) net 0 (cells ks)) =
         ten-lent bytes (λ s. checkRows s net lower upper w) (pass .ten)
         ∙ row-pass ShapeRange _ (pass .sound) ∙ row-pass ShortBuffer _ both ∙ row-pass GradeLimits _ (pass .limits) ∙ row-pass Network _ sound-network in

@@ -3,7 +3,7 @@ use Prim.Native.Nat.{_≤_}
 use native.Mathlib.Omega.{arith}
 use borrow.Author.Needs.{needs}
 use borrow.Author.Tests.{le-leb, lt-leb}
-use Rattle.compile.proofs.FirstLaws.{most-few}
+use Rattle.compile.proofs.RowLaws.{most-few}
 use Rattle.compile.proofs.has_room.Statement.{statement}
 use Rattle.compile.proofs.has_room.Tie as tie
 

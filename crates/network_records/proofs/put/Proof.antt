@@ -1,21 +1,29 @@
 -- `network_records::put` meets its contract.
 use mathlib.Core.Path.{_≡_, refl}
-use Prim.Native.Nat.{_-_, _*_, _≤_}
+use Prim.Native.Nat.{_+_, _-_, _*_, _≤_}
 use native.Mathlib.Omega.{arith}
 use Rattle.rules.specs.Bytes.{at}
+use lib.ListN.{length}
 use Rattle.tables.proofs.PartLaws.{Filled, filled-more, filled-laid}
+use Rattle.network_records.proofs.PutLaws.{put-bytes, put-nowhere}
 use borrow.Author.Needs.{needs}
 use Rattle.network_records.proofs.put.Statement.{statement}
 use Rattle.network_records.proofs.put.Tie as tie
 
 abbrev Inv-loop : tie.InvT-loop
-Inv-loop net₀ r bytes a j₀ net j = (j ≤ 16) × (a ≡ 16 * r) × Filled net₀ (16 * r) (at bytes) j net
+Inv-loop net₀ r bytes a j₀ net j = (j ≤ 16) × (a ≡ 16 * r) × (a + 16 ≤ length net₀) × Filled net₀ (16 * r) (at bytes) j net
 
 abbrev μ-loop : tie.MeasureT-loop
 μ-loop net₀ r bytes a j₀ net j = 16 - j
 
 mul-a : tie.Need-mul-a Inv-loop μ-loop
 mul-a c = search needs
+
+add-if1 : tie.Need-add-if1 Inv-loop μ-loop
+add-if1 c = search needs
+
+returns : tie.Need-returns Inv-loop μ-loop
+returns c = put-nowhere (c .if1 .taken)
 
 loop-holds : tie.Need-loop-holds Inv-loop μ-loop
 loop-holds c = search needs
@@ -36,15 +44,13 @@ loop-less : tie.Need-loop-less Inv-loop μ-loop
 loop-less c = search needs
 
 loop-again : tie.Need-loop-again Inv-loop μ-loop
-loop-again c =
-    let a = c .before .before .args in
-    (search needs, refl, filled-more _ (c .before .loop .inv .2) (omega arith) refl)
+loop-again c = let i = c .before .loop .inv in (search needs, refl, i .2, filled-more _ (i .3) (omega arith) refl)
 
 same-length : tie.Need-same-length Inv-loop μ-loop
 same-length c = search needs
 
-returns : tie.Need-returns Inv-loop μ-loop
-returns c = filled-laid _ 16 (omega arith) (c .before .loop .inv .2) (λ k h. refl)
+returns-2 : tie.Need-returns-2 Inv-loop μ-loop
+returns-2 c = put-bytes (filled-laid _ 16 (omega arith) (c .before .loop .inv .3) (λ k h. refl))
 
 pub put-spec : {M : Type 1} → statement M
 put-spec =
@@ -53,6 +59,8 @@ put-spec =
     Inv-loop
     μ-loop
     mul-a
+    add-if1
+    returns
     loop-holds
     array-read-net
     add-net
@@ -61,4 +69,4 @@ put-spec =
     loop-less
     loop-again
     same-length
-    returns)
+    returns-2)

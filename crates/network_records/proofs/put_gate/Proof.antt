@@ -1,8 +1,7 @@
 -- `network_records::put_gate` meets its contract.
-use mathlib.Core.Path.{ap}
+use mathlib.Core.Path.{ap, sym}
 use mathlib.Core.List.{_∷_}
 use Prim.Native.Nat.{ℕ, _/_, _%_}
-use Rattle.tables.proofs.PartLaws.{laid-as}
 use lib.ListN.{replicate}
 use borrow.Author.Needs.{needs}
 use Rattle.network_records.proofs.put_gate.Statement.{statement}
@@ -33,7 +32,7 @@ returns : tie.Need-returns
 returns c =
     let a = c .before .before .before .before .before .before .args in
     let e = c .before .before .before .kind .ensures in
-    laid-as (ap (λ (k : ℕ). k ∷ 0 ∷ 0 ∷ 0 ∷ a .left % 256 ∷ a .left / 256 ∷ a .right % 256 ∷ a .right / 256 ∷ replicate 8 0) e) (c .before .before .put .ensures)
+    c .before .before .put .ensures _ (sym (ap (λ (k : ℕ). k ∷ 0 ∷ 0 ∷ 0 ∷ a .left % 256 ∷ a .left / 256 ∷ a .right % 256 ∷ a .right / 256 ∷ replicate 8 0) e))
 
 pub put-gate-spec : {M : Type 1} → statement M
 put-gate-spec =

@@ -1,7 +1,7 @@
 -- `network_records::put_grades` meets its contract.
+use mathlib.Core.Path.{_∙_, sym}
 use mathlib.Core.List.{List}
 use Prim.Native.Nat.{ℕ}
-use Rattle.tables.proofs.PartLaws.{laid-as}
 use Rattle.network_records.proofs.LiteralLaws.{literal-bytes}
 use borrow.Author.Needs.{needs}
 use Rattle.network_records.proofs.put_grades.Statement.{statement}
@@ -41,7 +41,7 @@ returns : tie.Need-returns
 returns c =
     let a = c .before .before .before .before .before .args in
     let gs : List ℕ = a .t4 in
-    laid-as (literal-bytes (a .condition) gs (search needs)) (c .before .before .put .ensures)
+    λ x e. c .before .before .put .ensures x (e ∙ sym (literal-bytes (a .condition) gs (search needs)))
 
 pub put-grades-spec : {M : Type 1} → statement M
 put-grades-spec =

@@ -1,7 +1,7 @@
 -- `network_records::put_literal` meets its contract.
+use mathlib.Core.Path.{sym}
 use mathlib.Core.List.{List}
 use Prim.Native.Nat.{ℕ}
-use Rattle.tables.proofs.PartLaws.{laid-as}
 use Rattle.rules.specs.Bytes.{at}
 use Rattle.network_records.proofs.LiteralLaws.{literal-padded}
 use borrow.Author.Needs.{needs}
@@ -21,8 +21,8 @@ returns : tie.Need-returns
 returns c =
     let a = c .before .before .before .before .before .before .before .args in
     let gs : List ℕ = c .before .before .before .grades-of .result in
-    laid-as
-    (literal-padded (a .condition) (a .card) (at (a .table .now)) gs (search needs) (search needs) (c .before .before .before .grades-of .ensures)) (c .before .before .put-grades .ensures)
+    c .before .before .put-grades .ensures _
+    (sym (literal-padded (a .condition) (a .card) (at (a .table .now)) gs (search needs) (search needs) (c .before .before .before .grades-of .ensures)))
 
 pub put-literal-spec : {M : Type 1} → statement M
 put-literal-spec = tie.close (tie.spec grades-of-requires put-grades-requires same-length returns)

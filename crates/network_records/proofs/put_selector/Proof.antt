@@ -1,6 +1,6 @@
 -- `network_records::put_selector` meets its contract.
+use mathlib.Core.Path.{sym}
 use lib.ListN.{set, length-set}
-use Rattle.tables.proofs.PartLaws.{laid-as}
 use lib.Dec.{eqb}
 use lib.ListN.{replicate}
 use Rattle.rules.specs.Bytes.{pick}
@@ -21,8 +21,8 @@ same-length c = search needs
 returns : tie.Need-returns
 returns c =
     let a = c .before .before .before .before .before .args in
-    laid-as
-    (literal-padded (a .condition) (a .card) (λ v. pick (eqb v (a .k)) (a .top) 0) (set (replicate 8 0) (a .k) (a .top)) (search needs) (length-set (replicate 8 0) (a .k) (a .top)) (padded-one (a .card) (a .k) (a .top) (search needs) (search needs))) (c .before .before .put-grades .ensures)
+    c .before .before .put-grades .ensures _
+    (sym (literal-padded (a .condition) (a .card) (λ v. pick (eqb v (a .k)) (a .top) 0) (set (replicate 8 0) (a .k) (a .top)) (search needs) (length-set (replicate 8 0) (a .k) (a .top)) (padded-one (a .card) (a .k) (a .top) (search needs) (search needs))))
 
 pub put-selector-spec : {M : Type 1} → statement M
 put-selector-spec = tie.close (tie.spec array-write-grades put-grades-requires same-length returns)

@@ -1,20 +1,17 @@
 -- `stages::+join+split+stage` meets its contract.
-use mathlib.Core.Path.{_≡_, refl, sym, ap, _∙_}
+use mathlib.Core.Path.{_≡_, refl, _∙_}
 use mathlib.Core.List.{List}
 use mathlib.Core.Logic.{⊎-elim}
-use Prim.Native.Nat.{ℕ, _+_, _-_, _*_, _≤_, _<_}
+use Prim.Native.Nat.{ℕ, _+_, _-_, _*_, _/_, _≤_, _<_}
 use native.Mathlib.Omega.{arith}
-use lib.ListN.{length, getD}
-use borrow.Author.Tests.{ltb-true, ltb-false}
+use lib.ListN.{length}
 use borrow.Author.Needs.{needs}
-use Rattle.rules.specs.Cell.{card, width, singleton, without}
+use Rattle.rules.specs.Cell.{width}
 use Rattle.rules.specs.Stage.{treeOf}
-use Rattle.laws.proofs.TreeLaws.{size-pos}
 use Rattle.stage_drops.specs.Working.{frontStage}
-use Rattle.laws.proofs.LoopLaws.{card-read}
 use Rattle.stages.specs.Staging.{Written, Splits}
-use Rattle.stages.proofs.SplitStageLaws.{Axis, Turn, turn-none, lowest-below, all-cells, value-room, value-starts, value-fewer, value-back, gate-room, value-spread, turn-more, copy-room, split-whole}
-use Rattle.stages.proofs.StageEndLaws.{written-here, own-room, fewer, spread-room, narrow-room, whole, leaf-room, leaf-whole, choose-room, splits, split-done, joins, join-done}
+use Rattle.stages.proofs.SplitStageLaws.{Axis, Turn, InTurn, turn-none, number-below, values-some, axis, all-cells, value-room, value-starts, value-fewer, value-back, gates-room, value-spread, turn-more, copy-room, split-whole}
+use Rattle.stages.proofs.StageEndLaws.{written-here, own-room, fewer, spread-room, whole, wide-here, leaf-room, leaf-whole, choose-room, splits, split-done, joins, join-done}
 use Rattle.stages.proofs.BlockStageLaws.{first-room, first-starts, first-fewer, first-back, second-room, second-starts, second-fewer, second-back, close-room, joined-whole}
 use borrow.Fn.Kinds.{In}
 use borrow.Fn.PlainCycle.{Measures, is, falls, and}
@@ -29,14 +26,12 @@ use Rattle.stages.proofs.stage.Kinds as stage-kinds
 use Rattle.stages.proofs.+join+split+stage.Lts-stage as stage-lts
 use Rattle.places.proofs.cell_count.Reads as cell-count-reads
 use Rattle.places.proofs.sets.lowest.Reads as lowest-reads
-use Rattle.places.proofs.sets.singleton.Reads as singleton-reads
-use Rattle.places.proofs.sets.without.Reads as without-reads
+use Rattle.places.proofs.sets.without_one.Reads as without-one-reads
 use Rattle.stage_drops.proofs.drop_all.Reads as drop-all-reads
 use Rattle.stage_blocks.proofs.first_table.Reads as first-table-reads
 use Rattle.stage_blocks.proofs.second_table.Reads as second-table-reads
 use Rattle.stage_choice.proofs.choose.Reads as choose-reads
 use Rattle.stage_steps.proofs.ends.close_join.Reads as close-join-reads
-use Rattle.stage_steps.proofs.ends.narrow.Reads as narrow-reads
 use Rattle.stage_steps.proofs.ends.leaf.Reads as leaf-reads
 use Rattle.stage_steps.proofs.ends.spread.Reads as spread-reads
 use Rattle.stage_steps.proofs.values.begin_value.Reads as begin-value-reads
@@ -79,11 +74,11 @@ join-claims t = (first-table-reads.Asked, first-table-reads.Learnt, cell-count-r
 
 -- what `split` asks and learns of the functions that it calls
 abbrev split-claims : ℕ → split-lts.Claims
-split-claims t = (lowest-reads.Asked, lowest-reads.Learnt, singleton-reads.Asked, singleton-reads.Learnt, without-reads.Asked, without-reads.Learnt, cell-count-reads.Asked, cell-count-reads.Learnt, begin-value-reads.Asked, begin-value-reads.Learnt, stage-below t, stage.Post, uncofactor-reads.Asked, uncofactor-reads.Learnt, end-value-reads.Asked, end-value-reads.Learnt, copy-reads.Asked, copy-reads.Learnt)
+split-claims t = (without-one-reads.Asked, without-one-reads.Learnt, begin-value-reads.Asked, begin-value-reads.Learnt, stage-below t, stage.Post, uncofactor-reads.Asked, uncofactor-reads.Learnt, end-value-reads.Asked, end-value-reads.Learnt, copy-reads.Asked, copy-reads.Learnt)
 
 -- what `stage` asks and learns of the functions that it calls
 abbrev stage-claims : ℕ → stage-lts.Claims
-stage-claims t = (drop-all-reads.Asked, drop-all-reads.Learnt, lowest-reads.Asked, lowest-reads.Learnt, narrow-reads.Asked, narrow-reads.Learnt, leaf-reads.Asked, leaf-reads.Learnt, spread-reads.Asked, spread-reads.Learnt, choose-reads.Asked, choose-reads.Learnt, split-below t, split.Post, join-below t, join.Post)
+stage-claims t = (drop-all-reads.Asked, drop-all-reads.Learnt, lowest-reads.Asked, lowest-reads.Learnt, leaf-reads.Asked, leaf-reads.Learnt, spread-reads.Asked, spread-reads.Learnt, choose-reads.Asked, choose-reads.Learnt, split-below t, split.Post, join-below t, join.Post)
 
 join-mul-rest : (t : ℕ) → join-lts.Need-mul-rest (join-claims t) (join-at t) join.Post
 join-mul-rest t c =
@@ -189,96 +184,66 @@ join-same-length : (t : ℕ) → join-lts.Need-same-length (join-claims t) (join
 join-same-length t c = join-returns t c .whole _ (c .before .before .before .before .before .before .before .before .before .before .before .before .before .before .before .before .before .before .before .before .before .before .before .before .before .before .before .before .before .before .before .before .before .pre .1 .1) .len
 
 join-same-length-2 : (t : ℕ) → join-lts.Need-same-length-2 (join-claims t) (join-at t) join.Post
-join-same-length-2 t c = join-returns t c .whole _ (c .before .before .before .before .before .before .before .before .before .before .before .before .before .before .before .before .before .before .before .before .before .before .before .before .before .before .before .before .before .before .before .before .before .pre .1 .1) .put .bytes .len
+join-same-length-2 t c = join-returns t c .whole _ (c .before .before .before .before .before .before .before .before .before .before .before .before .before .before .before .before .before .before .before .before .before .before .before .before .before .before .before .before .before .before .before .before .before .pre .1 .1) .put .put .len
 
 abbrev split-Inv-loop : split-lts.InvT-loop
-split-Inv-loop w₀ network₀ m c r i b n values rest next₀ k₀ w network next k =
-    (k ≤ values) × ((ks : List ℕ) → Splits m ks c w₀ network₀ r → Axis ks i b n values → Turn m ks c w₀ network₀ r k next w network)
+split-Inv-loop w₀ network₀ m c r i values b n rest total₀ k₀ w network total k =
+    (k ≤ values) × ((ks : List ℕ) → Splits m ks c w₀ r → Axis ks i b n values → Turn m ks c w₀ network₀ r k total w network)
 
 abbrev split-μ-loop : split-lts.MeasureT-loop
-split-μ-loop w₀ network₀ m c r i b n values rest next₀ k₀ w network next k = values - k
+split-μ-loop w₀ network₀ m c r i values b n rest total₀ k₀ w network total k = values - k
 
-split-lowest-requires : (t : ℕ) → split-lts.Need-lowest-requires (split-claims t) (split-at t) split.Post split-Inv-loop split-μ-loop
-split-lowest-requires t c κs = tt
+split-without-one-requires : (t : ℕ) → split-lts.Need-without-one-requires (split-claims t) (split-at t) split.Post split-Inv-loop split-μ-loop
+split-without-one-requires t c κs =
+    let s = c .before .before in
+    let e : length (s .args .ks) ≡ 8 = search needs in
+    number-below (s .pre .1 .0) (s .pre .1 .1) e
 
 -- what it has read off its places
-split-axis : (t : ℕ) (c : split-lts.After-cell-count (split-claims t) (split-at t) split.Post split-Inv-loop split-μ-loop)
-    → Axis (c .before .before .before .before .before .before .args .t3) (c .before .before .before .lowest .result) (c .before .without .result) (c .cell-count .result) (getD (c .before .before .before .before .before .before .args .t3) (c .before .before .before .lowest .result) 0)
-split-axis t c =
-    let ks : List ℕ = c .before .before .before .before .before .before .args .t3 in
-    let e : length ks ≡ 8 = search needs in
-    let i = c .before .before .before .lowest .ensures in
-    let l = lowest-below (c .before .before .before .before .before .before .pre .1) e in
-    record {
-      index = i;
-      places = c .before .without .ensures ∙ ap (λ (s : ℕ). without s ks) (c .before .before .singleton .ensures ∙ ap singleton i);
-      count = c .cell-count .ensures;
-      cardinality = card-read ks (c .before .before .before .lowest .result) (omega arith) ∙ ap (card ks) i;
-    }
+split-axis : (t : ℕ) (c : split-lts.After-without-one (split-claims t) (split-at t) split.Post split-Inv-loop split-μ-loop)
+    → let a = c .before .before .before .args in Axis (a .ks) (a .low .number) (c .without-one .result) (a .c / a .low .values) (a .low .values)
+split-axis t c = axis (c .before .before .before .pre .1 .0) (c .before .before .before .pre .1 .1) (c .without-one .ensures)
 
-split-singleton-requires : (t : ℕ) → split-lts.Need-singleton-requires (split-claims t) (split-at t) split.Post split-Inv-loop split-μ-loop
-split-singleton-requires t c κs =
-    let e : length (c .before .before .before .args .t3) ≡ 8 = search needs in
-    let l = lowest-below (c .before .before .before .pre .1) e in
-    let i = c .lowest .ensures in
-    omega arith
-
-split-without-requires : (t : ℕ) → split-lts.Need-without-requires (split-claims t) (split-at t) split.Post split-Inv-loop split-μ-loop
-split-without-requires t c κs = tt
-
-split-cell-count-requires : (t : ℕ) → split-lts.Need-cell-count-requires (split-claims t) (split-at t) split.Post split-Inv-loop split-μ-loop
-split-cell-count-requires t c κs = tt
-
-split-array-read-values : (t : ℕ) → split-lts.Need-array-read-values (split-claims t) (split-at t) split.Post split-Inv-loop split-μ-loop
-split-array-read-values t c =
-    let e : length (c .before .before .before .before .before .before .args .t3) ≡ 8 = search needs in
-    let l = lowest-below (c .before .before .before .before .before .before .pre .1) e in
-    let i = c .before .before .before .lowest .ensures in
-    omega arith
-
-split-cast-values : (t : ℕ) → split-lts.Need-cast-values (split-claims t) (split-at t) split.Post split-Inv-loop split-μ-loop
-split-cast-values t c = search needs
+split-div-n : (t : ℕ) → split-lts.Need-div-n (split-claims t) (split-at t) split.Post split-Inv-loop split-μ-loop
+split-div-n t c = values-some (c .before .before .before .pre .1 .0) (c .before .before .before .pre .1 .1)
 
 split-mul-rest : (t : ℕ) → split-lts.Need-mul-rest (split-claims t) (split-at t) split.Post split-Inv-loop split-μ-loop
-split-mul-rest t c = let h = c .before .before .before .before .before .before .pre .1 .left .work in search needs
+split-mul-rest t c = let h = c .before .before .before .pre .1 .0 .left .work in search needs
 
 split-loop-holds : (t : ℕ) → split-lts.Need-loop-holds (split-claims t) (split-at t) split.Post split-Inv-loop split-μ-loop
 split-loop-holds t c = (omega arith, λ ks h a. turn-none _ ks _ _ _ _)
 
+-- the value in turn
+split-value : (t : ℕ) (c : split-lts.In-loop (split-claims t) (split-at t) split.Post split-Inv-loop split-μ-loop)
+    → let q = c .before .before in
+    let a = q .before .before .before .args in
+    let l = c .before .loop in
+    InTurn (a .m) (a .ks) (a .c) (a .w .now) (a .network .now) (a .r) (a .low .number) (q .without-one .result) (a .c / a .low .values) (a .low .values) (l .k) (l .total) (l .w) (l .network)
+split-value t c =
+    let h = c .before .before .before .before .before .pre .1 .0 in
+    let a = split-axis t (c .before .before) in
+    record { splits = h; axis = a; turn = c .before .loop .inv .1 _ h a; below = c .loop-test .taken }
+
 split-cast-begin-value : (t : ℕ) → split-lts.Need-cast-begin-value (split-claims t) (split-at t) split.Post split-Inv-loop split-μ-loop
 split-cast-begin-value t c =
-    let q = c .before .before .before .before in
-    let b = q .before .before .before .before .before .before in
-    let e : length (b .args .t3) ≡ 8 = search needs in
-    let l = lowest-below (b .pre .1) e in
-    let i = q .before .before .before .lowest .ensures in
+    let s = c .before .before .before .before .before .before .before in
+    let e : length (s .args .ks) ≡ 8 = search needs in
+    let l = number-below (s .pre .1 .0) (s .pre .1 .1) e in
     search needs
 
 split-sub-begin-value : (t : ℕ) → split-lts.Need-sub-begin-value (split-claims t) (split-at t) split.Post split-Inv-loop split-μ-loop
-split-sub-begin-value t c = c .before .before .before .before .before .before .before .before .before .before .pre .1 .left .proper .some
+split-sub-begin-value t c = c .before .before .before .before .before .before .before .pre .1 .0 .left .proper .some
 
 split-begin-value-requires : (t : ℕ) → split-lts.Need-begin-value-requires (split-claims t) (split-at t) split.Post split-Inv-loop split-μ-loop
-split-begin-value-requires t c κs =
-    let p = c .before .before in
-    let q = p .before .before in
-    let h = q .before .before .before .before .before .before .pre .1 in
-    let a = split-axis t q in
-    let u = p .before .loop .inv .1 _ h a in
-    let lt = p .loop-test .taken in
-    value-room h a u lt
+split-begin-value-requires t c κs = let z = split-value t (c .before .before) in value-room (z .splits) (z .axis) (z .turn) (z .below)
 
 -- the parts end within the buffer, before a value's stage
-split-parts : (t : ℕ) (c : split-lts.After-slice-known4 (split-claims t) (split-at t) split.Post split-Inv-loop split-μ-loop) → 8 * c .before .before .before .before .before .before .before .before .before .before .before .before .before .before .before .args .c ≤ length (c .before .before .before .before .begin-value .last .0)
+split-parts : (t : ℕ) (c : split-lts.After-slice-known4 (split-claims t) (split-at t) split.Post split-Inv-loop split-μ-loop) → 8 * c .before .before .before .before .before .before .before .before .before .before .before .before .args .c ≤ length (c .before .before .before .before .begin-value .last .0)
 split-parts t c =
-    let p = c .before .before .before .before .before .before .before in
-    let q = p .before .before in
-    let h = q .before .before .before .before .before .before .pre .1 in
-    let a = split-axis t q in
-    let u = p .before .loop .inv .1 _ h a in
-    let lt = p .loop-test .taken in
-    let w = h .left .work in
+    let z = split-value t (c .before .before .before .before .before .before .before) in
+    let w = z .splits .left .work in
     let g = c .before .before .before .before .begin-value .ensures .len in
-    let l = u .len in
+    let l = z .turn .len in
     omega arith
 
 split-sub-stage : (t : ℕ) → split-lts.Need-sub-stage (split-claims t) (split-at t) split.Post split-Inv-loop split-μ-loop
@@ -290,62 +255,36 @@ split-part-stage-start t c = let h = split-parts t c in search needs
 split-part-stage-end : (t : ℕ) → split-lts.Need-part-stage-end (split-claims t) (split-at t) split.Post split-Inv-loop split-μ-loop
 split-part-stage-end t c = let h = split-parts t c in search needs
 
-split-add-stage : (t : ℕ) → split-lts.Need-add-stage (split-claims t) (split-at t) split.Post split-Inv-loop split-μ-loop
-split-add-stage t c =
-    let p = c .before .before .before .before .before .before .before .before .before in
-    let q = p .before .before in
-    let h = q .before .before .before .before .before .before .pre .1 in
-    let a = split-axis t q in
-    let u = p .before .loop .inv .1 _ h a in
-    let lt = p .loop-test .taken in
-    let s = value-starts h a u lt (c .before .before .before .before .before .before .begin-value .ensures) .fits .numbers in
-    search needs
-
 split-stage-requires : (t : ℕ) → split-lts.Need-stage-requires (split-claims t) (split-at t) split.Post split-Inv-loop split-μ-loop
 split-stage-requires t c κs =
-    let p = c .before .before .before .before .before .before .before .before .before in
-    let q = p .before .before in
-    let h = q .before .before .before .before .before .before .pre .1 in
-    let a = split-axis t q in
-    let u = p .before .loop .inv .1 _ h a in
-    let lt = p .loop-test .taken in
+    let z = split-value t (c .before .before .before .before .before .before .before .before .before) in
     let g = c .before .before .before .before .before .before .begin-value .ensures in
-    (let e = q .before .before .before .before .before .before .pre .0 in let f = value-fewer h a u lt g in omega arith, value-starts h a u lt g)
+    (let e = c .before .before .before .before .before .before .before .before .before .before .before .before .before .before .pre .0 in let f = value-fewer (z .splits) (z .axis) (z .turn) (z .below) g in omega arith, value-starts (z .splits) (z .axis) (z .turn) (z .below) g)
 
 split-mul-uncofactor : (t : ℕ) → split-lts.Need-mul-uncofactor (split-claims t) (split-at t) split.Post split-Inv-loop split-μ-loop
-split-mul-uncofactor t c = let h = c .before .before .before .before .before .before .before .before .before .before .before .before .before .before .before .before .before .before .before .before .before .before .before .pre .1 .left .work in search needs
+split-mul-uncofactor t c =
+    let o = c .before .before .before .before .before .before .before .before .before .before .before .before .before .before .before .before .before .before .before .before .pre .1 .0 .left .own in
+    let e = o .own in
+    let f = o .shaped .few in
+    search needs
 
 split-uncofactor-requires : (t : ℕ) → split-lts.Need-uncofactor-requires (split-claims t) (split-at t) split.Post split-Inv-loop split-μ-loop
 split-uncofactor-requires t c κs =
-    let p = c .before .before .before .before .before .before .before .before .before .before .before .before .before .before .before in
-    let q = p .before .before in
-    let h = q .before .before .before .before .before .before .pre .1 in
-    let a = split-axis t q in
-    let u = p .before .loop .inv .1 _ h a in
-    let lt = p .loop-test .taken in
+    let z = split-value t (c .before .before .before .before .before .before .before .before .before .before .before .before .before .before .before) in
     let g = c .before .before .before .before .before .before .before .before .before .before .before .before .begin-value .ensures in
     let y = c .before .before .before .before .before .stage .ensures in
-    (lt, value-spread h a u lt g y (value-back h a u lt g y))
+    (z .below, value-spread (z .splits) (z .axis) (z .turn) (z .below) g y (value-back (z .splits) (z .axis) (z .turn) (z .below) g y))
 
 split-end-value-requires : (t : ℕ) → split-lts.Need-end-value-requires (split-claims t) (split-at t) split.Post split-Inv-loop split-μ-loop
 split-end-value-requires t c κs =
-    let p = c .before .before .before .before .before .before .before .before .before .before .before .before .before .before .before .before .before .before .before in
-    let q = p .before .before in
-    let h = q .before .before .before .before .before .before .pre .1 in
-    let a = split-axis t q in
-    let u = p .before .loop .inv .1 _ h a in
-    let lt = p .loop-test .taken in
-    gate-room h a u lt (c .before .before .before .before .before .before .before .before .before .before .before .before .before .before .before .before .begin-value .ensures) (c .before .before .before .before .before .before .before .before .before .stage .ensures)
+    let z = split-value t (c .before .before .before .before .before .before .before .before .before .before .before .before .before .before .before .before .before .before .before) in
+    gates-room (z .splits) (z .axis) (z .turn) (z .below) (c .before .before .before .before .before .before .before .before .before .before .before .before .before .before .before .before .begin-value .ensures) (c .before .before .before .before .before .before .before .before .before .stage .ensures)
 
 split-add-k : (t : ℕ) → split-lts.Need-add-k (split-claims t) (split-at t) split.Post split-Inv-loop split-μ-loop
 split-add-k t c =
-    let p = c .before .before .before .before .before .before .before .before .before .before .before .before .before .before .before .before .before .before .before .before .before .before in
-    let q = p .before .before in
-    let h = q .before .before .before .before .before .before .pre .1 in
-    let a = split-axis t q in
-    let u = p .before .loop .inv .1 _ h a in
-    let lt = p .loop-test .taken in
-    let f = value-room h a u lt .few in
+    let z = split-value t (c .before .before .before .before .before .before .before .before .before .before .before .before .before .before .before .before .before .before .before .before .before .before) in
+    let f = value-room (z .splits) (z .axis) (z .turn) (z .below) .few in
+    let h = z .below in
     search needs
 
 split-loop-less : (t : ℕ) → split-lts.Need-loop-less (split-claims t) (split-at t) split.Post split-Inv-loop split-μ-loop
@@ -364,30 +303,27 @@ split-loop-again t c =
     )
 
 split-mul-copy : (t : ℕ) → split-lts.Need-mul-copy (split-claims t) (split-at t) split.Post split-Inv-loop split-μ-loop
-split-mul-copy t c = let h = c .before .before .before .before .before .before .before .before .before .pre .1 .left .work in search needs
+split-mul-copy t c = let h = c .before .before .before .before .before .before .pre .1 .0 .left .work in search needs
 
 split-mul-copy-2 : (t : ℕ) → split-lts.Need-mul-copy-2 (split-claims t) (split-at t) split.Post split-Inv-loop split-μ-loop
 split-mul-copy-2 t c =
-    let q = c .before .before .before in
-    let p = q .before .before .before .before .before .before .pre .1 in
+    let p = c .before .before .before .before .before .before .pre .1 .0 in
     let h = p .left .own .own in
     let w = p .left .work in
-    let a = all-cells p (split-axis t q) in
+    let a = all-cells p (split-axis t (c .before .before .before)) in
     search needs
 
 split-copy-requires : (t : ℕ) → split-lts.Need-copy-requires (split-claims t) (split-at t) split.Post split-Inv-loop split-μ-loop
 split-copy-requires t c κs =
-    let q = c .before .before .before in
-    let h = q .before .before .before .before .before .before .pre .1 in
-    let a = split-axis t q in
+    let h = c .before .before .before .before .before .before .pre .1 .0 in
+    let a = split-axis t (c .before .before .before) in
     let l = c .before .before .loop .inv .0 in
     copy-room h a (c .before .before .loop .inv .1 _ h a) (omega arith)
 
 split-returns : (t : ℕ) → split-lts.Need-returns (split-claims t) (split-at t) split.Post split-Inv-loop split-μ-loop
 split-returns t c =
-    let q = c .before .before .before .before .before .before in
-    let h = q .before .before .before .before .before .before .pre .1 in
-    let a = split-axis t q in
+    let h = c .before .before .before .before .before .before .before .before .before .pre .1 .0 in
+    let a = split-axis t (c .before .before .before .before .before .before) in
     let l = c .before .before .before .before .before .loop in
     split-whole h a (l .inv .1 _ h a) (let m = l .inv .0 in omega arith) (c .before .before .copy .ensures)
 
@@ -395,7 +331,7 @@ split-same-length : (t : ℕ) → split-lts.Need-same-length (split-claims t) (s
 split-same-length t c = split-returns t c .len
 
 split-same-length-2 : (t : ℕ) → split-lts.Need-same-length-2 (split-claims t) (split-at t) split.Post split-Inv-loop split-μ-loop
-split-same-length-2 t c = split-returns t c .put .bytes .len
+split-same-length-2 t c = split-returns t c .put .put .len
 
 stage-drop-all-requires : (t : ℕ) → stage-lts.Need-drop-all-requires (stage-claims t) (stage-at t) stage.Post
 stage-drop-all-requires t c κs = own-room (c .before .before .before .pre .1)
@@ -403,40 +339,27 @@ stage-drop-all-requires t c κs = own-room (c .before .before .before .pre .1)
 stage-lowest-requires : (t : ℕ) → stage-lts.Need-lowest-requires (stage-claims t) (stage-at t) stage.Post
 stage-lowest-requires t c κs = tt
 
-stage-narrow-requires : (t : ℕ) → stage-lts.Need-narrow-requires (stage-claims t) (stage-at t) stage.Post
-stage-narrow-requires t c κs =
-    let d = c .before .before .before .before in
-    narrow-room (d .before .before .before .before .pre .1) (d .drop-all .ensures .0) (c .lowest .ensures) (d .drop-all .ensures .1)
-
 stage-leaf-requires : (t : ℕ) → stage-lts.Need-leaf-requires (stage-claims t) (stage-at t) stage.Post
 stage-leaf-requires t c κs =
     let d = c .before .before .before .before .before .before .before .before in
-    let w = c .before .before .before .narrow .ensures in
-    (leaf-room (d .before .before .before .before .pre .1) (d .drop-all .ensures .0) (ltb-true _ 2 (sym w ∙ c .before .before .if1 .taken)), c .before .before .before .before .lowest .ensures)
+    leaf-room (d .before .before .before .before .pre .1) (d .drop-all .ensures .0) (c .before .before .before .before .lowest .ensures) (d .drop-all .ensures .1) (c .before .before .if1 .taken)
 
 stage-spread-requires : (t : ℕ) → stage-lts.Need-spread-requires (stage-claims t) (stage-at t) stage.Post
 stage-spread-requires t c κs =
     let d = c .before .before .before .before .before .before .before .before .before .before .before .before in
     spread-room (d .before .before .before .before .pre .1) (d .drop-all .ensures .0) (d .drop-all .ensures .1) refl
 
-stage-add-result : (t : ℕ) → stage-lts.Need-add-result (stage-claims t) (stage-at t) stage.Post
-stage-add-result t c =
-    let b = c .before .before .before .before .before .before .before .before .before .before .before .before .before .before .before .before .before .before .before in
-    let s = b .pre .1 .fits .numbers in
-    let p = size-pos (treeOf (b .args .m) (frontStage (b .args .ks) (b .args .w .now))) in
-    search needs
-
 stage-returns : (t : ℕ) → stage-lts.Need-returns (stage-claims t) (stage-at t) stage.Post
 stage-returns t c =
     let d = c .before .before .before .before .before .before .before .before .before .before .before .before .before .before .before in
-    let w = c .before .before .before .before .before .before .before .before .before .before .narrow .ensures in
-    leaf-whole (d .before .before .before .before .pre .1) (d .drop-all .ensures .0) (ltb-true _ 2 (sym w ∙ c .before .before .before .before .before .before .before .before .before .if1 .taken)) (c .before .before .before .before .before .before .leaf .ensures) (c .before .before .spread .ensures)
+    let eight : length (d .drop-all .result .places) ≡ 8 = search needs in
+    leaf-whole (d .before .before .before .before .pre .1) (d .drop-all .ensures .0) (c .before .before .before .before .before .before .before .before .before .before .before .lowest .ensures) (d .drop-all .ensures .1) (c .before .before .before .before .before .before .before .before .before .if1 .taken) eight (c .before .before .before .before .before .before .leaf .ensures) (c .before .before .spread .ensures)
 
 stage-same-length : (t : ℕ) → stage-lts.Need-same-length (stage-claims t) (stage-at t) stage.Post
 stage-same-length t c = stage-returns t c .len
 
 stage-same-length-2 : (t : ℕ) → stage-lts.Need-same-length-2 (stage-claims t) (stage-at t) stage.Post
-stage-same-length-2 t c = stage-returns t c .put .bytes .len
+stage-same-length-2 t c = stage-returns t c .put .put .len
 
 stage-choose-requires : (t : ℕ) → stage-lts.Need-choose-requires (stage-claims t) (stage-at t) stage.Post
 stage-choose-requires t c κs =
@@ -448,14 +371,16 @@ stage-enum-told t c = search needs
 
 -- two or more conditions are left
 stage-wide : (t : ℕ) (c : stage-lts.Else1 (stage-claims t) (stage-at t) stage.Post) → 2 ≤ width (c .before .before .before .before .before .before .drop-all .result .places)
-stage-wide t c = ltb-false _ 2 (sym (c .before .narrow .ensures) ∙ c .if1 .left)
+stage-wide t c =
+    let d = c .before .before .before .before .before .before in
+    wide-here (d .before .before .before .before .pre .1) (d .drop-all .ensures .0) (c .before .before .lowest .ensures) (d .drop-all .ensures .1) (c .if1 .left)
 
 stage-split-requires : (t : ℕ) → stage-lts.Need-split-requires (stage-claims t) (stage-at t) stage.Post
 stage-split-requires t c κs =
     let o = c .before .before .before .before .before .before .before .before in
     let d = o .before .before .before .before .before .before in
     let b = d .before .before .before .before in
-    (let e = b .pre .0 in let f = fewer (b .pre .1) (d .drop-all .ensures .0) in omega arith, splits (b .pre .1) (d .drop-all .ensures .0) (d .drop-all .ensures .1) (stage-wide t o) (c .before .before .before .before .before .before .choose .ensures) (c .before .before .enum-told .given .1))
+    (let e = b .pre .0 in let f = fewer (b .pre .1) (d .drop-all .ensures .0) in omega arith, (splits (b .pre .1) (d .drop-all .ensures .0) (d .drop-all .ensures .1) (stage-wide t o) (c .before .before .before .before .before .before .choose .ensures) (c .before .before .enum-told .given .1), o .before .before .lowest .ensures))
 
 stage-enum-known-gate : (t : ℕ) → stage-lts.Need-enum-known-gate (stage-claims t) (stage-at t) stage.Post
 stage-enum-known-gate t c = search needs
@@ -471,7 +396,7 @@ stage-join-requires t c κs =
 stage-came : (t : ℕ) (c : stage-lts.At-match-came (stage-claims t) (stage-at t) stage.Post)
     → let d = c .before .before .before .before .before .before .before .before .before .before .before in
     let a = d .before .before .before .before .args in
-    Written (d .drop-all .result .places) (treeOf (a .m) (frontStage (a .ks) (a .w .now))) (c .before .before .before .choose .last .0) (a .network .now) (a .r) (c .match .e) (c .match .w) (c .match .network)
+    Written (d .drop-all .result .places) (treeOf (a .m) (frontStage (a .ks) (a .w .now))) (c .before .before .before .choose .last .0) (a .network .now) (a .r) (c .match .of) (c .match .w) (c .match .network)
 stage-came t c =
     let o = c .before .before .before .before .before in
     let d = o .before .before .before .before .before .before in
@@ -497,7 +422,7 @@ stage-same-length-3 : (t : ℕ) → stage-lts.Need-same-length-3 (stage-claims t
 stage-same-length-3 t c = stage-returns-2 t c .len
 
 stage-same-length-4 : (t : ℕ) → stage-lts.Need-same-length-4 (stage-claims t) (stage-at t) stage.Post
-stage-same-length-4 t c = stage-returns-2 t c .put .bytes .len
+stage-same-length-4 t c = stage-returns-2 t c .put .put .len
 
 pub +join+split+stage-spec : {M : Type 1} → statement M
 +join+split+stage-spec = close μ-join μ-split μ-stage (λ t. join-lts.spec (join-claims t)
@@ -525,12 +450,8 @@ pub +join+split+stage-spec : {M : Type 1} → statement M
     split.Post
     split-Inv-loop
     split-μ-loop
-    (split-lowest-requires t)
-    (split-singleton-requires t)
-    (split-without-requires t)
-    (split-cell-count-requires t)
-    (split-array-read-values t)
-    (split-cast-values t)
+    (split-without-one-requires t)
+    (split-div-n t)
     (split-mul-rest t)
     (split-loop-holds t)
     (split-cast-begin-value t)
@@ -539,7 +460,6 @@ pub +join+split+stage-spec : {M : Type 1} → statement M
     (split-sub-stage t)
     (split-part-stage-start t)
     (split-part-stage-end t)
-    (split-add-stage t)
     (split-stage-requires t)
     (split-mul-uncofactor t)
     (split-uncofactor-requires t)
@@ -558,10 +478,8 @@ pub +join+split+stage-spec : {M : Type 1} → statement M
     stage.Post
     (stage-drop-all-requires t)
     (stage-lowest-requires t)
-    (stage-narrow-requires t)
     (stage-leaf-requires t)
     (stage-spread-requires t)
-    (stage-add-result t)
     (stage-same-length t)
     (stage-same-length-2 t)
     (stage-returns t)

@@ -46,6 +46,8 @@ pub trait Calls {
     fn join_second(&self, gate: Gate, table: Table, sets: Sets, first: &[u8], limits: Limits) -> u32;
     /// Writes the records; answers how many.
     fn compile(&self, table: Table, work: &mut [u8], network: &mut [u8]) -> u32;
+    /// Writes the depth of the last record that compiling writes, in two bytes; answers how many it writes.
+    fn forecast(&self, table: Table, work: &mut [u8], depth: &mut [u8]) -> u32;
     /// Answers 0 for within, else 1 + 16 × cell + grade of the first cell outside.
     fn check(&self, network: &[u8], table: Table, work: &mut [u8]) -> u32;
     /// Answers the grade.

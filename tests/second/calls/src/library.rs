@@ -32,6 +32,9 @@ unsafe extern "C" {
     fn grades_compile(
         shape: In, _: Bytes, lower: In, _: Bytes, upper: In, _: Bytes, work: Out, _: Bytes, network: Out, _: Bytes,
     ) -> u32;
+    fn grades_forecast(
+        shape: In, _: Bytes, lower: In, _: Bytes, upper: In, _: Bytes, work: Out, _: Bytes, depth: Out, _: Bytes,
+    ) -> u32;
     fn grades_check(
         network: In, _: Bytes, shape: In, _: Bytes, lower: In, _: Bytes, upper: In, _: Bytes, work: Out, _: Bytes,
     ) -> u32;
@@ -85,6 +88,10 @@ impl Calls for Library {
 
     fn compile(&self, table: Table, work: &mut [u8], network: &mut [u8]) -> u32 {
         call!(grades_compile [table.shape] [table.lower] [table.upper] {work} {network})
+    }
+
+    fn forecast(&self, table: Table, work: &mut [u8], depth: &mut [u8]) -> u32 {
+        call!(grades_forecast [table.shape] [table.lower] [table.upper] {work} {depth})
     }
 
     fn check(&self, network: &[u8], table: Table, work: &mut [u8]) -> u32 {

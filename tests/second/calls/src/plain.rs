@@ -6,6 +6,7 @@ mod file;
 mod grouping;
 mod join;
 mod network;
+mod records;
 mod shape;
 
 use crate::{Calls, Gate, Limits, REFUSED, REFUSED_EVALUATION, Sets, Table};
@@ -38,6 +39,10 @@ impl Calls for Plain {
 
     fn compile(&self, table: Table, work: &mut [u8], network: &mut [u8]) -> u32 {
         answer(REFUSED, compile::compile(table, work, network))
+    }
+
+    fn forecast(&self, table: Table, work: &mut [u8], depth: &mut [u8]) -> u32 {
+        answer(REFUSED, compile::forecast(table, work, depth))
     }
 
     fn check(&self, bytes: &[u8], table: Table, work: &mut [u8]) -> u32 {

@@ -1,7 +1,7 @@
 //! What a run compares.
 
 use crate::random::Random;
-use crate::session::{Join, Outcome, Session};
+use crate::session::{Join, Outcome, Session, compile_rooms};
 use crate::tables::{all_tables, cardinality_lists, damage, some_table};
 use calls::Gate;
 use calls::tables::OwnedTable;
@@ -9,11 +9,6 @@ use calls::tables::OwnedTable;
 const GATES: [Gate; 2] = [Gate::Max, Gate::Min];
 /// Values that a byte is changed to, beside its neighbours and noise.
 const WRONG: [u8; 9] = [0, 1, 2, 3, 4, 8, 9, 16, 255];
-
-/// The bytes that compiling asks for as network.
-fn network_room(cells: usize) -> usize {
-    16 * if cells == 1 { 1 } else { 3 * cells - 5 }
-}
 
 /// Everything that the tiny shapes have.
 pub fn tiny(session: &mut Session) -> Outcome<()> {
@@ -55,15 +50,15 @@ fn every_shape(session: &mut Session) -> Outcome<()> {
     Ok(())
 }
 
-/// Its file, its network and its joins, in buffers that are now and then longer than asked.
+/// Its file, its network, foretold and compiled, and its joins, in buffers that are now and then longer than asked.
 fn whole_table(session: &mut Session, table: &OwnedTable) -> Outcome<()> {
     let cells = table.cells();
     let mut longer = |asked: usize| asked + session.random.pick(&[0, 0, 0, 1, 17, 1000]);
-    let rooms = [10, cells, cells].map(&mut longer);
-    let [work, room] = [16 * cells, network_room(cells)].map(&mut longer);
+    let read_rooms = [10, cells, cells].map(&mut longer);
+    let rooms = compile_rooms(cells).map(&mut longer);
     let bytes = table.file(|| session.random.once_in(2));
-    session.read(&bytes, rooms)?;
-    let network = session.compile(table, work, room)?.unwrap_or_default();
+    session.read(&bytes, read_rooms)?;
+    let network = session.compile(table, rooms)?.unwrap_or_default();
     let work = network.len() / 16 + session.random.below(3);
     session.check(&network, table, work)?;
     for number in 0..cells.min(8) {
@@ -192,7 +187,7 @@ fn large_files(session: &mut Session) -> Outcome<()> {
 fn damaged_networks(session: &mut Session) -> Outcome<()> {
     for table in small_tables(&mut session.random) {
         let cells = table.cells();
-        let sound = session.compile(&table, 16 * cells, network_room(cells))?.unwrap_or_default();
+        let sound = session.compile(&table, compile_rooms(cells))?.unwrap_or_default();
         let count = sound.len() / 16;
         for at in 0..sound.len() {
             for value in wrong_values(sound[at], &mut session.random).into_iter().chain([(at / 16) as u8]) {
@@ -214,6 +209,17 @@ fn damaged_networks(session: &mut Session) -> Outcome<()> {
     Ok(())
 }
 
+/// Lengths to try where so many bytes are asked for.
+fn around(asked: usize) -> [usize; 4] {
+    [0, asked.saturating_sub(1), asked, asked + 1]
+}
+
+/// The same for each of three buffers, the others being as asked; which it is, and all three lengths.
+fn around_each(asked: [usize; 3]) -> impl Iterator<Item = (usize, [usize; 3])> {
+    let rooms = move |at: usize, room: usize| [0, 1, 2].map(|other| if other == at { room } else { asked[other] });
+    (0..3).flat_map(move |at| around(asked[at]).map(|room| (at, rooms(at, room))))
+}
+
 /// Each buffer of each call with no byte, one byte too few, as many as asked, and one more.
 fn lent_lengths(session: &mut Session) -> Outcome<()> {
     for cards in [&[][..], &[2], &[2, 2], &[3, 2], &[2, 2, 2], &[8, 8], &[5, 5, 5], &[8, 8, 8, 2], &[2; 8]] {
@@ -223,31 +229,26 @@ fn lent_lengths(session: &mut Session) -> Outcome<()> {
         let bytes = table.file(|| session.random.once_in(2));
         let join = Join { gate: Gate::Max, s: 1, t: 2 };
         let first = session.join(&table, join, None, [cells; 2])?.map_or(vec![0; cells], |[lower, _]| lower);
-        let network = session.compile(&table, 16 * cells, network_room(cells))?.unwrap_or_default();
+        let network = session.compile(&table, compile_rooms(cells))?.unwrap_or_default();
         let count = network.len() / 16;
         let resized = |bytes: &[u8], length: usize| {
             let mut bytes = bytes.to_vec();
             bytes.resize(length, 1);
             bytes
         };
-        let around = |asked: usize| [0, asked.saturating_sub(1), asked, asked + 1];
-        for buffer in 0..3 {
-            for room in around([10, cells, cells][buffer]) {
-                let mut rooms = [10, cells, cells];
-                rooms[buffer] = room;
-                session.read(&bytes, rooms)?;
-                let mut short = table.clone();
-                let lent = [&mut short.shape, &mut short.lower, &mut short.upper];
-                *lent[buffer] = resized([&table.shape, &table.lower, &table.upper][buffer], room);
-                for gate in GATES {
-                    let join = Join { gate, ..join };
-                    session.join(&short, join, None, [cells; 2])?;
-                    session.join(&short, join, Some(&first), [cells; 2])?;
-                }
-                session.compile(&short, 16 * cells, network_room(cells))?;
-                session.check(&network, &short, count)?;
-                session.evaluate(&network, &short.shape, count, 0)?;
+        for (buffer, rooms) in around_each([10, cells, cells]) {
+            session.read(&bytes, rooms)?;
+            let mut short = table.clone();
+            let lent = [&mut short.shape, &mut short.lower, &mut short.upper];
+            *lent[buffer] = resized([&table.shape, &table.lower, &table.upper][buffer], rooms[buffer]);
+            for gate in GATES {
+                let join = Join { gate, ..join };
+                session.join(&short, join, None, [cells; 2])?;
+                session.join(&short, join, Some(&first), [cells; 2])?;
             }
+            session.compile(&short, compile_rooms(cells))?;
+            session.check(&network, &short, count)?;
+            session.evaluate(&network, &short.shape, count, 0)?;
         }
         for room in around(cells) {
             for gate in GATES {
@@ -259,11 +260,8 @@ fn lent_lengths(session: &mut Session) -> Outcome<()> {
                 session.join(&table, join, Some(&resized(&first, room)), [cells; 2])?;
             }
         }
-        for work in around(16 * cells) {
-            session.compile(&table, work, network_room(cells))?;
-        }
-        for room in around(network_room(cells)) {
-            session.compile(&table, 16 * cells, room)?;
+        for (_, rooms) in around_each(compile_rooms(cells)) {
+            session.compile(&table, rooms)?;
         }
         for work in around(count) {
             session.check(&network, &table, work)?;
@@ -279,7 +277,7 @@ fn lent_shapes_and_limits(session: &mut Session) -> Outcome<()> {
     let mut long = OwnedTable { shape: sound.shape.clone(), lower: vec![0; 64], upper: vec![1; 64] };
     long.lower[..6].copy_from_slice(&sound.lower);
     long.upper[..6].copy_from_slice(&sound.upper);
-    let network = session.compile(&sound, 96, network_room(6))?.unwrap_or_default();
+    let network = session.compile(&sound, compile_rooms(6))?.unwrap_or_default();
     for place in 0..10 {
         for value in 0..=255 {
             long.shape[place] = value;
@@ -302,7 +300,10 @@ fn every_call(session: &mut Session, table: &OwnedTable, network: &[u8]) -> Outc
     let join = Join { gate: session.random.pick(&GATES), s: 1, t: 2 };
     session.join(table, join, None, rooms)?;
     session.join(table, join, Some(&table.lower), rooms)?;
-    session.compile(table, 16 * table.cells(), network_room(table.cells()))?;
+    let [work, room, _] = compile_rooms(table.cells());
+    // A depth buffer that is too short comes before limits that are wrong, and after a shape that is.
+    let depth = session.random.below(4);
+    session.compile(table, [work, room, depth])?;
     session.check(network, table, network.len() / 16)?;
     let cell = session.random.below(8) as u32;
     session.evaluate(network, &table.shape, network.len() / 16, cell)

@@ -4,6 +4,7 @@ use crate::lent::Lent;
 use crate::random::Random;
 use calls::tables::OwnedTable;
 use calls::{Calls, Gate, Limits, REFUSED, REFUSED_EVALUATION, Sets, Table};
+use oracle::network::Record;
 use oracle::{Answer, file, join, network, stages};
 
 /// The error is a report of the first difference.
@@ -24,6 +25,28 @@ pub struct Session<'a> {
     pub random: Random,
     pub cases: u64,
     seen: [bool; 13],
+}
+
+/// The bytes that compiling asks for as work and as network, and those that a forecast asks for as depth.
+pub fn compile_rooms(cells: usize) -> [usize; 3] {
+    [16 * cells, 16 * if cells == 1 { 1 } else { 3 * cells - 5 }, 2]
+}
+
+/// A call that is lent a table and a work buffer and writes to one more: its name, that buffer's, and how it is made.
+type Writes = (&'static str, &'static str, fn(&dyn Calls, Table, &mut [u8], &mut [u8]) -> u32);
+
+const FORECAST: Writes = ("forecast", "depth", |calls, table, work, depth| calls.forecast(table, work, depth));
+const COMPILE: Writes = ("compile", "network", |calls, table, work, network| calls.compile(table, work, network));
+
+/// What a forecast tells of a network: the number of its records, and the depth of the last as it is written. Here the
+/// depths are found from the bytes, one record after the other.
+fn figures(network: &[u8]) -> (u32, Vec<u8>) {
+    let mut depths: Vec<u16> = vec![];
+    for record in network.chunks(16) {
+        let input = |at: usize| depths[u16::from_le_bytes([record[at], record[at + 1]]) as usize];
+        depths.push(if record[0] < 2 { 0 } else { 1 + input(4).max(input(6)) });
+    }
+    (depths.len() as u32, depths.last().map_or(vec![], |depth| depth.to_le_bytes().to_vec()))
 }
 
 fn lend(table: &OwnedTable, random: &mut Random) -> [Lent; 3] {
@@ -133,21 +156,41 @@ impl<'a> Session<'a> {
         self.settle(&call, answer, wanted, REFUSED, &[shape, table_lower, table_upper, &block, &lower, &upper])
     }
 
-    /// Compiles with a work and a network buffer of these lengths; the network's bytes.
-    pub fn compile(&mut self, given: &OwnedTable, work: usize, network: usize) -> Outcome<Option<Vec<u8>>> {
+    /// Forecasts and compiles, with a work, a network and a depth buffer of these lengths; the network's bytes.
+    pub fn compile(&mut self, given: &OwnedTable, [work, network, depth]: [usize; 3]) -> Outcome<Option<Vec<u8>>> {
+        let lent = stages::Lent::new(&given.shape, &given.lower, &given.upper, work);
+        let wanted = lent.forecast(depth).map(|(records, depth)| (records as u32, depth.to_le_bytes().to_vec()));
+        let foretold = self.write(FORECAST, given, [work, depth], wanted)?;
+        let bytes = |records: &[Record]| records.iter().flat_map(|record| record.to_bytes()).collect();
+        let wanted = lent.compile(network).map(|records| (records.len() as u32, bytes(records)));
+        let written = self.write(COMPILE, given, [work, network], wanted)?;
+        match (foretold, written) {
+            (Some(foretold), Some((_, network))) if foretold != figures(&network) => {
+                Err(format!("case {}: forecast {foretold:?} of a network that has {:?}", self.cases, figures(&network)))
+            }
+            (_, written) => Ok(written.map(|(_, network)| network)),
+        }
+    }
+
+    /// Makes a call with a work buffer and one to write of these lengths; its answer, and the bytes that it wrote.
+    fn write(
+        &mut self,
+        (name, writes, call): Writes,
+        given: &OwnedTable,
+        rooms: [usize; 2],
+        wanted: Answer<(u32, Vec<u8>)>,
+    ) -> Outcome<Option<(u32, Vec<u8>)>> {
         let lent = lend(given, &mut self.random);
-        let wanted = stages::compile(&given.shape, &given.lower, &given.upper, work, network);
-        let mut work = Lent::noise("work", work, &mut self.random);
-        let mut network = Lent::noise("network", network, &mut self.random);
-        let wanted = wanted.map(|records| {
-            let bytes: Vec<u8> = records.iter().flat_map(|record| record.to_bytes()).collect();
-            network.expect(&bytes);
+        let mut work = Lent::noise("work", rooms[0], &mut self.random);
+        let mut to = Lent::noise(writes, rooms[1], &mut self.random);
+        let wanted = wanted.map(|(answer, bytes)| {
+            to.expect(&bytes);
             work.leave_free(16 * cells_of(&given.shape));
-            (records.len() as u32, bytes)
+            (answer, (answer, bytes))
         });
-        let answer = self.calls.compile(table(&lent), work.bytes_mut(), network.bytes_mut());
+        let answer = call(self.calls, table(&lent), work.bytes_mut(), to.bytes_mut());
         let [shape, lower, upper] = &lent;
-        self.settle("compile", answer, wanted, REFUSED, &[shape, lower, upper, &work, &network])
+        self.settle(name, answer, wanted, REFUSED, &[shape, lower, upper, &work, &to])
     }
 
     /// Checks a network with a work buffer of this length.

@@ -1,7 +1,7 @@
 //! Tables that source documents 000 and 001 print, and public tables whose networks they count. Each is compiled beside
 //! the oracle and held to what the documents say of it; VECTORS.md says what could be taken from them.
 
-use crate::session::{Join, Outcome, Session};
+use crate::session::{Join, Outcome, Session, compile_rooms};
 use calls::Gate;
 use calls::tables::OwnedTable;
 
@@ -182,7 +182,7 @@ fn holds(session: &mut Session, table: &OwnedTable, network: &[u8], fact: &Fact)
     }
 }
 
-/// Compiles every vector, prints a table of them, and fails where a document's fact does not hold.
+/// Forecasts and compiles every vector, prints a table of them, and fails where a document's fact does not hold.
 pub fn run(session: &mut Session) -> Outcome<()> {
     println!("| table | cells | records | gates | literals | printed: gates, literals |");
     println!("|---|---|---|---|---|---|");
@@ -190,7 +190,7 @@ pub fn run(session: &mut Session) -> Outcome<()> {
         [figures_of_000(), figures_of_001(), public_tables()].into_iter().flatten()
     {
         let cells = table.cells();
-        let network = session.compile(&table, 16 * cells, 16 * (3 * cells - 5))?.unwrap_or_default();
+        let network = session.compile(&table, compile_rooms(cells))?.unwrap_or_default();
         session.check(&network, &table, network.len() / 16)?;
         let (records, gates, literals) = (network.len() / 16, count(&network, &[2, 3]), count(&network, &[1]));
         println!("| {name} | {cells} | {records} | {gates} | {literals} | {printed} |");

@@ -11,7 +11,8 @@ pub fn listing(bytes: &[u8]) -> String {
 fn network(bytes: &[u8]) -> Answer<String> {
     let read = file::read(bytes, usize::MAX, usize::MAX, usize::MAX)?;
     let shape = Shape::from_bytes(&read.shape)?;
-    let records = stages::compile(&read.shape, &read.lower, &read.upper, usize::MAX, usize::MAX)?;
+    let lent = stages::Lent::new(&read.shape, &read.lower, &read.upper, usize::MAX);
+    let records = lent.compile(usize::MAX)?;
     let lines = records.iter().enumerate().map(|(number, record)| format!("{number} {}\n", shown(record, &shape)));
     Ok(lines.collect::<String>() + &format!("records {}\n", records.len()))
 }

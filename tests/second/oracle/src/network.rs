@@ -74,6 +74,15 @@ pub fn grade(records: &[Record], first: usize, cell: Values) -> u8 {
     *grades.last().expect("a network has a record")
 }
 
+/// How deep gates stand under a record: 0 for none, and under a gate one more than under the deeper of its inputs. The
+/// walk meets a record once for each way to it, which in a compiled network is one.
+pub fn depth(records: &[Record], number: u16) -> u16 {
+    match records[number as usize] {
+        Record::Gate(_, left, right) => 1 + depth(records, left).max(depth(records, right)),
+        Record::Constant(_) | Record::Literal(..) => 0,
+    }
+}
+
 /// Evaluation with a work buffer of this length.
 pub fn evaluate(network: &[u8], shape: &[u8], work: usize, cell: u32) -> Answer<u8> {
     let shape = Shape::from_bytes(shape)?;

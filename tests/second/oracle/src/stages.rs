@@ -1,8 +1,9 @@
-//! Compiling: document 01, section "Stages", step by step.
+//! Compiling: document 01, section "Stages", step by step; and a forecast, from the records of a whole compile.
 
 use crate::join::{exists, first_block, second_block};
-use crate::network::{Record, grade};
+use crate::network::{Record, depth, grade};
 use crate::{Answer, Gate, Limits, Shape, Table, Values, has, refusal, stop_if, with};
+use std::cell::OnceCell;
 use std::cmp::Reverse;
 use std::collections::BTreeMap;
 
@@ -14,23 +15,59 @@ struct Grouping {
     t: u8,
 }
 
-/// The records that compiling writes, with buffers of these lengths.
-pub fn compile(shape: &[u8], lower: &[u8], upper: &[u8], work: usize, network: usize) -> Answer<Vec<Record>> {
-    let shape = Shape::from_bytes(shape)?;
-    let count = shape.count();
-    let most = if count == 1 { 1 } else { 3 * count - 5 };
-    let short = lower.len() < count || upper.len() < count || work < 16 * count || network < 16 * most;
-    stop_if(short, refusal::SHORT_BUFFER)?;
-    let table = shape.table(lower, upper)?;
-    let mut compiling = Compiling { shape: &shape, records: vec![] };
+/// What compiling and a forecast are lent; the work buffer is given by its length.
+pub struct Lent<'a> {
+    shape: &'a [u8],
+    lower: &'a [u8],
+    upper: &'a [u8],
+    work: usize,
+    /// The table's records, which take long to make, once a call has asked for them.
+    records: OnceCell<Vec<Record>>,
+}
+
+/// The most records that there can be.
+fn most_records(count: usize) -> usize {
+    if count == 1 { 1 } else { 3 * count - 5 }
+}
+
+impl<'a> Lent<'a> {
+    pub fn new(shape: &'a [u8], lower: &'a [u8], upper: &'a [u8], work: usize) -> Lent<'a> {
+        Lent { shape, lower, upper, work, records: OnceCell::new() }
+    }
+
+    /// The rows that both calls have; the records, if what the call writes has room where there are so many cells.
+    fn judged(&self, has_room: impl Fn(usize) -> bool) -> Answer<&[Record]> {
+        let shape = Shape::from_bytes(self.shape)?;
+        let count = shape.count();
+        let short = self.lower.len() < count || self.upper.len() < count || self.work < 16 * count;
+        stop_if(short || !has_room(count), refusal::SHORT_BUFFER)?;
+        let table = shape.table(self.lower, self.upper)?;
+        Ok(self.records.get_or_init(|| records(&shape, table)))
+    }
+
+    /// The records that compiling writes, with a network buffer of this length.
+    pub fn compile(&self, network: usize) -> Answer<&[Record]> {
+        self.judged(|count| network >= 16 * most_records(count))
+    }
+
+    /// How many records these are and the depth of the last, as a forecast tells with a depth buffer of this length.
+    pub fn forecast(&self, room: usize) -> Answer<(usize, u16)> {
+        let records = self.judged(|_| room >= 2)?;
+        Ok((records.len(), depth(records, records.len() as u16 - 1)))
+    }
+}
+
+/// The records of a table, held to its limits.
+fn records(shape: &Shape, table: Table) -> Vec<Record> {
+    let mut compiling = Compiling { shape, records: vec![] };
     compiling.stage(table.clone());
-    let records = compiling.records;
-    assert!(records.len() <= most, "{} records for {count} cells", records.len());
+    let (records, count) = (compiling.records, shape.count());
+    assert!(records.len() <= most_records(count), "{} records for {count} cells", records.len());
     for (&cell, limits) in &table.limits {
         let grade = grade(&records, 0, cell);
         assert!(limits.allow(grade), "outside its limits at {cell:?}: {table:?}");
     }
-    Ok(records)
+    records
 }
 
 struct Compiling<'a> {

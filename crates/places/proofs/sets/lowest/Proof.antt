@@ -1,9 +1,10 @@
 -- `places::sets::lowest` meets its contract.
-use mathlib.Core.Path.{sym}
+use mathlib.Core.Path.{sym, ap, _∙_}
 use mathlib.Core.List.{List}
 use Prim.Native.Nat.{ℕ, _-_, _≤_, _<_}
 use native.Mathlib.Omega.{arith}
 use lib.Dec.{T, lt→ltb, ltb→lt}
+use lib.ListN.{List·getD-eq-default}
 use Rattle.rules.specs.Cell.{present, card}
 use Rattle.laws.proofs.LoopLaws.{lowest-at, card-read}
 use borrow.Author.Count.{below-more}
@@ -23,11 +24,18 @@ loop-holds c = search needs
 array-read-if1 : tie.Need-array-read-if1 Inv-loop μ-loop
 array-read-if1 c = search needs
 
+array-read-t10 : tie.Need-array-read-t10 Inv-loop μ-loop
+array-read-t10 c = search needs
+
+cast-t11 : tie.Need-cast-t11 Inv-loop μ-loop
+cast-t11 c = search needs
+
 returns : tie.Need-returns Inv-loop μ-loop
 returns c =
     let l = c .before .before .loop in
     let ks : List ℕ = c .before .before .before .args .t1 in
-    sym (lowest-at ks (l .i) (omega arith) (l .inv .1) (λ h. rw (← (card-read ks (l .i) h)) (lt→ltb _ _ (c .if1 .taken))))
+    let e = lowest-at ks (l .i) (omega arith) (l .inv .1) (λ h. rw (← (card-read ks (l .i) h)) (lt→ltb _ _ (c .if1 .taken))) in
+    record { number = sym e; values = card-read ks (l .i) (omega arith) ∙ ap (card ks) (sym e) }
 
 add-i : tie.Need-add-i Inv-loop μ-loop
 add-i c = search needs
@@ -46,7 +54,8 @@ returns-2 : tie.Need-returns-2 Inv-loop μ-loop
 returns-2 c =
     let l = c .before .loop in
     let ks : List ℕ = c .before .before .args .t1 in
-    sym (lowest-at ks 8 (omega arith) (λ j h. l .inv .1 j (omega arith)) (λ h. absurd (omega arith)))
+    let e = lowest-at ks 8 (omega arith) (λ j h. l .inv .1 j (omega arith)) (λ h. absurd (omega arith)) in
+    record { number = sym e; values = sym (ap (card ks) e ∙ List·getD-eq-default ks 1 (omega arith)) }
 
 pub lowest-spec : {M : Type 1} → statement M
 lowest-spec =
@@ -56,6 +65,8 @@ lowest-spec =
     μ-loop
     loop-holds
     array-read-if1
+    array-read-t10
+    cast-t11
     returns
     add-i
     loop-less

@@ -16,6 +16,9 @@ mul-cofactor-2 c = search needs
 cofactor-requires : tie.Need-cofactor-requires
 cofactor-requires c κs = let p = c .before .before .before .before .before .before .before .pre in (search needs, limits-room p)
 
+add-t15 : tie.Need-add-t15
+add-t15 c = search needs
+
 same-length : tie.Need-same-length
 same-length c = search needs
 
@@ -35,6 +38,7 @@ begin-value-spec =
     mul-cofactor
     mul-cofactor-2
     cofactor-requires
+    add-t15
     same-length
     same-length-2
     returns)

@@ -1,35 +1,54 @@
-//! Compiling: document 01, "Stages". A stage of c cells has eight parts of c bytes of the work buffer and lends the rest
-//! to the stages that it starts, which have half of its cells at most.
+//! Compiling and a forecast: document 01, "Stages". A stage of c cells has eight parts of c bytes of the work buffer and
+//! lends the rest to the stages that it starts, which have half of its cells at most. The stages of both calls are the
+//! same; they differ in what becomes of a record.
 
 use super::grouping::Sides;
 use super::join::{exchange, reach};
+use super::records::{Counted, RECORD, Records, Written};
 use super::shape::{PLACES, Places, Shape, members};
 use super::{Answer, refuse_if};
 use crate::{Gate, Table};
 
-const RECORD: usize = 16;
-
 pub fn compile(table: Table, work: &mut [u8], network: &mut [u8]) -> Answer<u32> {
+    let room = network.len() / RECORD;
+    let has_room = |cells| room >= if cells == 1 { 1 } else { 3 * cells - 5 };
+    let (written, _) = stages(table, work, has_room, Written::new(network))?;
+    Ok(written.count as u32)
+}
+
+pub fn forecast(table: Table, work: &mut [u8], depth: &mut [u8]) -> Answer<u32> {
+    let (counted, of_last) = stages(table, work, |_| depth.len() >= 2, Counted::default())?;
+    depth[..2].copy_from_slice(&(of_last as u16).to_le_bytes());
+    Ok(counted.count as u32)
+}
+
+/// All stages of a table, if `has_room` for its cells; its records, and the number that stands for the last.
+fn stages<R: Records>(
+    table: Table,
+    work: &mut [u8],
+    has_room: impl FnOnce(usize) -> bool,
+    records: R,
+) -> Answer<(R, usize)> {
     let shape = Shape::from_bytes(table.shape)?;
     let cells = shape.cells;
-    let records = if cells == 1 { 1 } else { 3 * cells - 5 };
     let shortest = table.lower.len().min(table.upper.len());
-    refuse_if(shortest < cells || work.len() < RECORD * cells || network.len() < RECORD * records, 10)?;
+    refuse_if(shortest < cells || work.len() < RECORD * cells || !has_room(cells), 10)?;
     shape.judge_limits(table.lower, table.upper)?;
     work[..cells].copy_from_slice(&table.lower[..cells]);
     work[cells..2 * cells].copy_from_slice(&table.upper[..cells]);
-    let mut compiling = Compiling { grades: shape.grades, network, records: 0 };
-    compiling.stage(shape.places, &mut work[..RECORD * cells]);
-    Ok(compiling.records as u32)
+    let mut compiling = Compiling { grades: shape.grades, records };
+    let last = compiling.stage(shape.places, &mut work[..RECORD * cells]);
+    Ok((compiling.records, last))
 }
 
-struct Compiling<'a> {
+struct Compiling<R> {
     grades: u8,
-    network: &'a mut [u8],
-    records: usize,
+    records: R,
 }
 
-/// Drops what can be dropped from the limits at the front of the work buffer; the places left.
+/// Drops what can be dropped from the limits at the front of the work buffer; the places left. Each kind of stage has it
+/// inside, since a call would cost the small stages more than what it does there.
+#[inline(always)]
 fn drop_conditions(mut places: Places, work: &mut [u8]) -> Places {
     for condition in members(places.present) {
         let cells = places.cells;
@@ -54,42 +73,15 @@ fn drop_conditions(mut places: Places, work: &mut [u8]) -> Places {
     places
 }
 
-impl Compiling<'_> {
-    /// Writes a record of this kind, the rest of its bytes by `fill`; its number.
-    fn push(&mut self, kind: u8, fill: impl FnOnce(&mut [u8])) -> usize {
-        let record = &mut self.network[RECORD * self.records..][..RECORD];
-        record.fill(0);
-        record[0] = kind;
-        fill(record);
-        self.records += 1;
-        self.records - 1
-    }
-
-    fn literal(&mut self, condition: usize, grades: &[u8]) -> usize {
-        self.push(1, |record| {
-            record[1] = condition as u8;
-            record[8..8 + grades.len()].copy_from_slice(grades);
-        })
-    }
-
-    fn gate(&mut self, gate: Gate, left: usize, right: usize) -> usize {
-        self.push(if gate == Gate::Min { 2 } else { 3 }, |record| {
-            record[4..6].copy_from_slice(&(left as u16).to_le_bytes());
-            record[6..8].copy_from_slice(&(right as u16).to_le_bytes());
-        })
-    }
-
+impl<R: Records> Compiling<R> {
     /// Compiles the limits at the front of the work buffer, and leaves there the grades of the function that the
-    /// records compute; the number of the last record.
+    /// records compute; the number that stands for the last record.
     fn stage(&mut self, before: Places, work: &mut [u8]) -> usize {
         let places = drop_conditions(before, work);
         let cells = places.cells;
         let last = match places.present.count_ones() {
-            0 => {
-                let grade = work[0];
-                self.push(0, |record| record[1] = grade)
-            }
-            1 => self.literal(places.present.trailing_zeros() as usize, &work[..cells]),
+            0 => self.records.constant(work[0]),
+            1 => self.records.literal(places.present.trailing_zeros() as usize, &work[..cells]),
             _ => self.join_or_split(&places, work),
         };
         if before.cells != cells {
@@ -158,7 +150,7 @@ impl Compiling<'_> {
             Gate::Min => (most - first[cell]).min(rest[seen]),
         });
         first.copy_from_slice(reached);
-        self.gate(gate, left, right)
+        self.records.gate(gate, left, right)
     }
 
     /// A stage for a block that does not depend on the set, in the rest of the work buffer.
@@ -186,16 +178,16 @@ impl Compiling<'_> {
         for value in 0..card {
             let mut grades = [0; PLACES];
             grades[value] = self.grades - 1;
-            let literal = self.literal(condition, &grades);
+            let literal = self.records.literal(condition, &grades);
             let (to_lower, to_upper) = rest.split_at_mut(cells);
             to_lower.iter_mut().zip(lower.chunks_exact(card)).for_each(|(to, line)| *to = line[value]);
             to_upper.iter_mut().zip(upper.chunks_exact(card)).for_each(|(to, line)| *to = line[value]);
             let stage = self.stage(below, rest);
             function.chunks_exact_mut(card).zip(&*rest).for_each(|(line, grade)| line[value] = *grade);
-            let least = self.gate(Gate::Min, literal, stage);
+            let least = self.records.gate(Gate::Min, literal, stage);
             total = Some(match total {
                 None => least,
-                Some(before) => self.gate(Gate::Max, before, least),
+                Some(before) => self.records.gate(Gate::Max, before, least),
             });
         }
         total.unwrap_or(0)

@@ -1,28 +1,32 @@
 -- Records written one behind the other.
-use Prim.Native.Nat.{ℕ, _+_, _*_}
-use mathlib.Core.Path.{_≡_, refl, sym, subst}
-use mathlib.Core.List.{List, [], _∷_, _++_, append-nil}
+use Prim.Native.Nat.{ℕ, _+_, _*_, _<_}
+use mathlib.Core.Path.{_≡_, refl, sym, _∙_, subst}
+use mathlib.Core.List.{List, _++_, append-nil}
 use native.Mathlib.Omega.{arith}
 use lib.ListN.{length, length-append}
 use Rattle.rules.specs.Network.{Record, recordBytes, networkBytes}
 use Rattle.laws.proofs.ByteLaws.{length-networkBytes, networkBytes-append}
 use Rattle.tables.specs.Part.{Laid}
 use Rattle.tables.proofs.PartLaws.{laid-as, laid-append}
-use Rattle.stage_steps.specs.Putting.{Put}
+use Rattle.network_records.specs.Putting.{Put, PutBytes}
 
-pub put-none : (net : List ℕ) (r : ℕ) → Put net r [] net
-put-none net r = record { bytes = record { len = refl; here = λ k h. absurd (omega arith); before = λ j h. refl; after = λ j h. refl } }
+-- sixteen bytes, where they have room and where not
+pub put-bytes : {net : List ℕ} {r : ℕ} {bytes net′ : List ℕ} → Laid net (16 * r) bytes 16 net′ → PutBytes net r bytes net′
+put-bytes l x e = record { len = l .len; bytes = λ h. laid-as (sym e ∙ sym (append-nil (recordBytes x))) l }
 
-pub put-one : {net : List ℕ} {r : ℕ} (x : Record) {net′ : List ℕ} → Laid net (16 * r) (recordBytes x) 16 net′ → Put net r (x ∷ []) net′
-put-one x l = record { bytes = laid-as (sym (append-nil (recordBytes x))) l }
+pub put-nowhere : {net : List ℕ} {r : ℕ} {bytes : List ℕ} → length net < 16 * r + 16 → PutBytes net r bytes net
+put-nowhere h x e = record { len = refl; bytes = λ room. absurd (omega arith) }
 
 pub put-then : {net : List ℕ} {r e : ℕ} {xs ys : List Record} {v net′ : List ℕ} → e ≡ r + length xs → Put net r xs v → Put v e ys net′ → Put net r (xs ++ ys) net′
 put-then {net} {r} {e} {xs} {ys} {v} {net′} q p o =
     let k : 16 * length xs + 16 * length ys ≡ 16 * length (xs ++ ys) = omega (arith, length-append xs ys) in
     let at : 16 * e ≡ 16 * r + 16 * length xs = omega arith in
+    let same = p .len in
     record {
-      bytes = subst (λ (n : ℕ). Laid net (16 * r) (networkBytes (xs ++ ys)) n net′) k
-          (laid-as (sym (networkBytes-append xs ys)) (laid-append (length-networkBytes xs) at (p .bytes) (o .bytes)));
+      len = o .len ∙ p .len;
+      bytes = λ h.
+          subst (λ (n : ℕ). Laid net (16 * r) (networkBytes (xs ++ ys)) n net′) k
+          (laid-as (sym (networkBytes-append xs ys)) (laid-append (length-networkBytes xs) at (p .bytes (omega arith)) (o .bytes (omega arith))));
     }
 
 -- the same records, written otherwise

@@ -1,0 +1,146 @@
+-- The promise of a forecast, from what the rows and the stages say; and what a caller may take for granted of it.
+use Prim.Native.Nat.{ℕ, _-_, _*_, _≤_, _<_}
+use mathlib.Core.Path.{_≡_, refl, sym, _∙_, ap, ap₂}
+use mathlib.Core.List.{List, [], _∷_}
+use native.Mathlib.Omega.{arith}
+use lib.Dec.{T, eqb}
+use lib.ListN.{length}
+use Rattle.rules.specs.declared.Refusal.{Refusal}
+use Rattle.rules.specs.declared.Refusal.the-variants.{ShapeRange, ShortBuffer, GradeLimits}
+use Rattle.rules.specs.Cell.{cells}
+use Rattle.rules.specs.Limits.{limitsSound}
+use Rattle.rules.specs.Verdict.{Verdict, accepted, refused, andThen, answerOf}
+use Rattle.rules.specs.Network.{Record, networkRecords}
+use Rattle.rules.specs.Stage.{compiled}
+use Rattle.rules.specs.Demands.{compiledRecords}
+use Rattle.rules.specs.CompileCall.{mostRecords, tableRoom, lentLimits}
+use Rattle.rules.specs.Forecast.{Forecast, networkDepth, forecastOf, Foretold}
+use Rattle.laws.proofs.ByteLaws.{past-same}
+use Rattle.laws.proofs.DepthLaws.{tree-depth, depth-size, foretold}
+use Rattle.laws.proofs.TestLaws.{pick-ok, passed}
+use Rattle.laws.proofs.TreeLaws.{length-records}
+use Rattle.laws.proofs.VerdictLaws.{accepted-same, row-passed}
+use Rattle.shape.specs.declared.Shape.{Shape}
+use Rattle.shape.specs.Shapes.{cardsOf, placesOf, isSound}
+use Rattle.stage_steps.specs.declared.gates.Extent.{Extent}
+use Rattle.compile.specs.declared.Judged.the-variants as judged
+use Rattle.compile.specs.declared.ForecastAnswer.{ForecastAnswer}
+use Rattle.compile.specs.declared.ForecastAnswer.the-variants.{Figures, Refused}
+use Rattle.compile.specs.Compiling.{tableRows, compileRows, judgedAs, Accepted, Recorded}
+use Rattle.compile.specs.Forecasting.{forecastAnswer, forecastMeans, forecastRows, Foretells, Forecasts}
+use Rattle.compile.proofs.CountLaws.{was-accepted, accepted-records}
+use Rattle.compile.proofs.RowLaws.{Passed, was-unsound, few-records, table, cells-between}
+
+-- two answers
+figures-refused : {A : Type 0} {n d : ℕ} {r : Refusal} → Figures n d ≡ Refused r → A
+figures-refused e = let z : _≡_ {A = ℕ} 0 1 = cc in absurd (omega arith)
+
+figures-count : {n d k e : ℕ} → Figures n d ≡ Figures k e → n ≡ k
+figures-count e = cc
+
+figures-depth : {n d k e : ℕ} → Figures n d ≡ Figures k e → d ≡ e
+figures-depth e = cc
+
+forecast-means : (v : Verdict Forecast) → forecastMeans (forecastAnswer v) ≡ answerOf (λ f. f .count ∷ f .depth ∷ []) v
+forecast-means (accepted f) = refl
+forecast-means (refused q) = refl
+
+-- a network buffer of 49,072 bytes is long enough for every table
+most-enough : (c : ℕ) → c ≤ 1024 → mostRecords c ≤ 3067
+most-enough c h = pick-ok (λ (q : ℕ). q ≤ 3067) (eqb c 1) 1 (3 * c - 5) (λ t. omega arith) (λ n. omega arith)
+
+enough : (shape : Shape) → T (isSound shape) → 16 * mostRecords (cells (placesOf shape)) ≤ 49072
+enough shape h =
+    let c = cells-between shape (cells (placesOf shape)) refl (passed (isSound shape) h) in
+    let m = most-enough (cells (placesOf shape)) (c .1) in
+    omega arith
+
+module _ (shape : Shape) (lower upper work : List ℕ) where
+  abbrev rs : List Record
+  rs = compiledRecords (placesOf shape) (shape .m) (lentLimits (placesOf shape) lower upper)
+
+  -- the rows of a table whose network has room
+  abbrev rows : Verdict (List Record)
+  rows = tableRows shape lower upper (length work) 49072
+
+  alike : Foretold (shape .n) (cardsOf shape) (shape .m) (length lower) (length upper) (length work) (lentLimits (placesOf shape) lower upper)
+  alike = foretold (shape .n) (cardsOf shape) (shape .m) (length lower) (length upper) (length work) (lentLimits (placesOf shape) lower upper)
+
+  told : forecastRows shape lower upper work ≡ andThen rows (λ xs. accepted (forecastOf xs))
+  told = alike 49072 (enough shape)
+
+  -- a refusal
+  pub forecast-stops : {r : Refusal} → judged.Refused r ≡ judgedAs rows → Forecasts shape lower upper work (Refused r) work
+  forecast-stops {r} h =
+      let e : forecastRows shape lower upper work ≡ refused r = told ∙ ap (λ (v : Verdict (List Record)). andThen v (λ xs. accepted (forecastOf xs))) (was-unsound rows h) in
+      let answer : Refused r ≡ forecastAnswer (forecastRows shape lower upper work) = sym (ap forecastAnswer e) in
+      record {
+        answers = answer;
+        means = ap forecastMeans answer ∙ forecast-means (forecastRows shape lower upper work);
+        stops = alike;
+        foretells = λ records depth q. figures-refused (sym q);
+        refusal-keeps = λ q k. refl;
+        kept = past-same;
+      }
+
+  -- the figures of the table's records are those of the bytes that a compile has left
+  foretells-by : {records depth : ℕ} → records ≡ length rs → depth ≡ networkDepth rs → Foretells shape lower upper records depth
+  foretells-by e d work₁ network work₂ network′ n c =
+      let v = was-accepted (compileRows shape lower upper work₁ network) (c .answers) in
+      let same = accepted-records (shape .n) (shape .m) (length lower) (length upper) (length work₁) (length network) (cardsOf shape) (lentLimits (placesOf shape) lower upper) (v .1) in
+      let k = c .keeps-table n refl in (
+        e ∙ ap length same ∙ sym (v .2),
+        d ∙ ap networkDepth (sym (ap (networkRecords (placesOf shape)) (k .bytes) ∙ k .compiled .reads)),
+      )
+
+  -- figures
+  pub forecast-tells : Passed shape lower upper (length work) 49072 → {network : List ℕ} {of : Extent} {work′ network′ : List ℕ}
+      → Recorded shape lower upper work network of work′ network′ → Forecasts shape lower upper work (Figures (of .next) (of .depth)) work′
+  forecast-tells ok {of = of} w =
+      let e : forecastRows shape lower upper work ≡ accepted (forecastOf rs) = told ∙ ap (λ (v : Verdict (List Record)). andThen v (λ xs. accepted (forecastOf xs))) (ok .rows) in
+      let answer : Figures (of .next) (of .depth) ≡ forecastAnswer (forecastRows shape lower upper work) = ap₂ Figures (w .count) (w .depth) ∙ sym (ap forecastAnswer e) in
+      record {
+        answers = answer;
+        means = ap forecastMeans answer ∙ forecast-means (forecastRows shape lower upper work);
+        stops = alike;
+        foretells = λ records depth q. foretells-by (sym (figures-count q) ∙ w .count) (sym (figures-depth q) ∙ w .depth);
+        refusal-keeps = λ q k. figures-refused k;
+        kept = w .kept;
+      }
+
+-- the verdict behind an answer
+pub was-told : (v : Verdict Forecast) {n d : ℕ} → Figures n d ≡ forecastAnswer v → (f : Forecast) × (v ≡ accepted f) × (n ≡ f .count) × (d ≡ f .depth)
+was-told (accepted f) e = (f, refl, figures-count e, figures-depth e)
+was-told (refused q) e = figures-refused e
+
+pub was-not-told : (v : Verdict Forecast) {q : Refusal} → Refused q ≡ forecastAnswer v → v ≡ refused q
+was-not-told (accepted f) e = figures-refused (sym e)
+was-not-told (refused r) e = cc
+
+-- what the figures are, and that they are few
+pub record Told (shape : Shape) (lower upper : List ℕ) (n d : ℕ) : Type 0 where
+  pub count : n ≡ length (compiledRecords (placesOf shape) (shape .m) (lentLimits (placesOf shape) lower upper))
+  pub depth : d ≡ networkDepth (compiledRecords (placesOf shape) (shape .m) (lentLimits (placesOf shape) lower upper))
+  pub few : n ≤ 3067
+  pub below : d < n
+
+pub told-figures : {shape : Shape} {lower upper work : List ℕ} {answer : ForecastAnswer} {work′ : List ℕ} → Forecasts shape lower upper work answer work′ → (n d : ℕ) → answer ≡ Figures n d
+    → Told shape lower upper n d
+told-figures {shape} {lower} {upper} {work} c n d e =
+    let ks = placesOf shape in
+    let l = lentLimits (placesOf shape) lower upper in
+    let tree = compiled ks (shape .m) l in
+    let v = was-told (forecastRows shape lower upper work) (sym e ∙ c .answers) in
+    let a = row-passed (isSound shape) ShapeRange _ (v .1) in
+    let b = row-passed (tableRoom (cells ks) (length lower) (length upper) (length work)) ShortBuffer _ (a .1) in
+    let t = row-passed (limitsSound ks (shape .m) l) GradeLimits _ (b .1) in
+    let same : v .0 ≡ forecastOf (compiledRecords ks (shape .m) l) = sym (accepted-same (t .1)) in
+    let ok : Accepted shape lower upper (length work) = record { shape-sound = a .0; room = b .0; limits-sound = t .0 } in
+    let count : n ≡ length (compiledRecords ks (shape .m) l) = v .2 ∙ ap (λ (f : Forecast). f .count) same in
+    let depth : d ≡ networkDepth (compiledRecords ks (shape .m) l) = v .3 ∙ ap (λ (f : Forecast). f .depth) same in
+    record {
+      count = count;
+      depth = depth;
+      few = omega (arith, count, few-records (table shape lower upper ok), most-enough (cells ks) (cells-between shape (cells ks) refl (a .0) .1));
+      below = omega (arith, count, depth, tree-depth tree, depth-size tree, length-records tree 0);
+    }

@@ -1,0 +1,81 @@
+//! What becomes of a network's records: compiling writes them, a forecast counts them.
+
+use crate::Gate;
+
+pub const RECORD: usize = 16;
+
+/// Takes the records in their order. Each gets a number that stands for it where it is the input of a gate.
+pub trait Records {
+    fn constant(&mut self, grade: u8) -> usize;
+    fn literal(&mut self, condition: usize, grades: &[u8]) -> usize;
+    fn gate(&mut self, gate: Gate, left: usize, right: usize) -> usize;
+}
+
+/// Writes them to a network; the number is a record's place there.
+pub struct Written<'a> {
+    network: &'a mut [u8],
+    pub count: usize,
+}
+
+impl<'a> Written<'a> {
+    pub fn new(network: &'a mut [u8]) -> Written<'a> {
+        Written { network, count: 0 }
+    }
+
+    /// Writes a record of this kind, the rest of its bytes by `fill`.
+    fn push(&mut self, kind: u8, fill: impl FnOnce(&mut [u8])) -> usize {
+        let record = &mut self.network[RECORD * self.count..][..RECORD];
+        record.fill(0);
+        record[0] = kind;
+        fill(record);
+        self.count += 1;
+        self.count - 1
+    }
+}
+
+impl Records for Written<'_> {
+    fn constant(&mut self, grade: u8) -> usize {
+        self.push(0, |record| record[1] = grade)
+    }
+
+    fn literal(&mut self, condition: usize, grades: &[u8]) -> usize {
+        self.push(1, |record| {
+            record[1] = condition as u8;
+            record[8..8 + grades.len()].copy_from_slice(grades);
+        })
+    }
+
+    fn gate(&mut self, gate: Gate, left: usize, right: usize) -> usize {
+        self.push(if gate == Gate::Min { 2 } else { 3 }, |record| {
+            record[4..6].copy_from_slice(&(left as u16).to_le_bytes());
+            record[6..8].copy_from_slice(&(right as u16).to_le_bytes());
+        })
+    }
+}
+
+/// Counts them; the number is a record's depth.
+#[derive(Default)]
+pub struct Counted {
+    pub count: usize,
+}
+
+impl Counted {
+    fn push(&mut self, depth: usize) -> usize {
+        self.count += 1;
+        depth
+    }
+}
+
+impl Records for Counted {
+    fn constant(&mut self, _: u8) -> usize {
+        self.push(0)
+    }
+
+    fn literal(&mut self, _: usize, _: &[u8]) -> usize {
+        self.push(0)
+    }
+
+    fn gate(&mut self, _: Gate, left: usize, right: usize) -> usize {
+        self.push(1 + left.max(right))
+    }
+}
