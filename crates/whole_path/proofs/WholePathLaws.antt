@@ -13,12 +13,13 @@ use Rattle.rules.specs.Bytes.{at}
 use Rattle.rules.specs.Cell.{cells}
 use Rattle.rules.specs.Shape.{places}
 use Rattle.rules.specs.Limits.{Limits, limitsOf, limitsSound}
-use Rattle.rules.specs.Network.{Record, networkSound, evaluate}
+use Rattle.rules.specs.Network.{Record, networkRecords, networkSound, evaluate}
 use Rattle.rules.specs.NetworkCalls.{checkFrom}
 use Rattle.rules.specs.Verdict.{Verdict, accepted, verdictNumber, roomy}
 use Rattle.rules.specs.TableFile.{Seen, fileLimits, judgeFile, judgeReading}
 use Rattle.rules.specs.Demands.{Between, compiledRecords}
 use Rattle.rules.specs.CompileCall.{mostRecords, compileRoom, lentLimits}
+use Rattle.rules.specs.Forecast.{networkDepth}
 use Rattle.laws.proofs.TestLaws.{passes, passed, and-l, and-both}
 use Rattle.laws.proofs.VerdictLaws.{row-pass, row-passed, last-passed}
 use Rattle.laws.proofs.CompiledLaws.{few-compiled}
@@ -137,9 +138,12 @@ module _ (file shape lower upper shape′ lower′ upper′ : List ℕ) (got : R
   unfolding verdict s
   upper-is = got .upper-after ∙ ap (λ (v : Verdict Seen). upperAfter file v upper) (read .1)
 
-  -- the cells of the shape that was written
+  -- the places of the shape that was written, and its cells
+  lent-places : placesOf (lentShape (take 10 shape′)) ≡ places (s .cards)
+  lent-places = ap (λ (b : List ℕ). placesOf (lentShape b)) bytes ∙ same-places
+
   same-cells : lentCells (take 10 shape′) ≡ cells (places (s .cards))
-  same-cells = ap lentCells bytes ∙ ap cells same-places
+  same-cells = ap cells lent-places
 
   -- limits of a cell, as the buffers have them and as the file does
   at-file : (cell q : ℕ) → cell < cells (places (s .cards)) → Between (limitsOf lower′ upper′) cell q → Between (fileLimits file s) cell q
@@ -174,6 +178,9 @@ module _ (file shape lower upper shape′ lower′ upper′ : List ℕ) (got : R
               at-file cell q h
               (evaluates-within (take 10 shape′) lower′ upper′ work network n work′ network′ done counted w room cell (subst (λ (c : ℕ). cell < c) (sym same-cells) h) after q found);
           checked = λ w after r room found. checks-within (take 10 shape′) lower′ upper′ work network n work′ network′ done counted w room after r found;
+          foretold = λ w depth w′ depth′ count found h.
+              let f = found .foretells h work network work′ network′ n done counted in
+              (f .0, f .1 ∙ ap (λ (ks : List ℕ). networkDepth (networkRecords ks (take (16 * n) network′))) lent-places);
         }
 
 pub whole-path : WholePath

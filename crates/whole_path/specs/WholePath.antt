@@ -1,18 +1,23 @@
--- From a table file to a grade: what holds of a C program that reads a file, compiles the table that it holds, and evaluates or checks the network.
+-- From a table file to a grade: what holds of a C program that reads a file, compiles the table that it holds, and evaluates or checks the
+-- network; and of a forecast of that table.
 -- Of each call nothing is used but its promise.
 use Prim.Native.Nat.{ℕ, _*_, _≤_, _<_}
 use mathlib.Core.Path.{_≡_}
 use mathlib.Core.List.{List}
 use lib.ListN.{length, take}
+use Rattle.rules.specs.Bytes.{word}
 use Rattle.rules.specs.Cell.{cells}
 use Rattle.rules.specs.Shape.{places}
 use Rattle.rules.specs.Verdict.{accepted}
 use Rattle.rules.specs.TableFile.{Seen, judgeFile, fileLimits}
+use Rattle.rules.specs.Network.{networkRecords}
 use Rattle.rules.specs.CompileCall.{mostRecords}
+use Rattle.rules.specs.Forecast.{networkDepth}
 use Rattle.rules.specs.Demands.{Between}
 use Rattle.panel_answers.specs.Answers.{lentCells}
 use Rattle.panel_reads.specs.Reads.{Reads}
 use Rattle.panel_networks.specs.Compiles.{Compiles}
+use Rattle.panel_networks.specs.Forecasts.{Forecasts}
 use Rattle.panel_networks.specs.Checks.{Checks}
 use Rattle.panel_networks.specs.Evaluates.{Evaluates}
 
@@ -35,6 +40,9 @@ module _ (file shape lower upper : List ℕ) (n : ℕ) (network : List ℕ) wher
         → Evaluates networkLent shapeLent cell work after grade → Between (fileLimits file table) cell grade
     -- a check of it against the limits that were read finds every cell within
     pub checked : (work after : List ℕ) (answer : ℕ) → n ≤ length work → Checks networkLent shapeLent lower upper work answer after → answer ≡ 0
+    -- a forecast of what was read has told how many records these are, and how deep
+    pub foretold : (work depth work′ depth′ : List ℕ) (count : ℕ) → Forecasts shapeLent lower upper work depth count work′ depth′ → count < 65536
+        → (count ≡ n) × (word depth′ 0 ≡ networkDepth (networkRecords (places (table .cards)) networkLent))
 
 -- a file that reading accepts, whatever the buffers held before, and compiling with room for the table that it holds
 abbrev pub WholePath : Type 0
