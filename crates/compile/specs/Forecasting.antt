@@ -28,7 +28,7 @@ forecastMeans (Figures records depth) = granted (records ∷ depth ∷ [])
 forecastMeans (Refused r) = denied r
 
 module _ (shape : Shape) (lower upper : List ℕ) where
-  -- the rows of document 01 for a forecast
+  -- the rows of a forecast
   abbrev pub forecastRows : List ℕ → Verdict Forecast
   forecastRows work = forecastCall (shape .n) (cardsOf shape) (shape .m) (length lower) (length upper) (length work) (lentLimits (placesOf shape) lower upper)
 

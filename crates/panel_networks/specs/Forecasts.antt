@@ -17,7 +17,7 @@ use Rattle.compile.specs.Forecasting.{forecastRows}
 use Rattle.panel_answers.specs.Answers.{lentShape, lent, callNumber}
 use Rattle.panel_networks.specs.Compiles.{Compiles}
 
--- the rows of document 01 for a forecast, with the depth's buffer among those that may be too short
+-- the rows of a forecast, with the depth's buffer among those that may be too short
 abbrev pub depthRows : List ℕ → List ℕ → List ℕ → List ℕ → Shape → Verdict Forecast
 depthRows lower upper work depth shape =
     unless (isSound shape) ShapeRange (unless (leb 2 (length depth)) ShortBuffer (forecastRows shape lower upper work))
@@ -40,7 +40,7 @@ module _ (bytes lower upper work depth : List ℕ) where
   Foretells count levels = (work network work′ network′ : List ℕ) (n : ℕ) → Compiles bytes lower upper work network n work′ network′ → n < 65536
       → (count ≡ n) × (levels ≡ networkDepth (networkRecords (placesOf (lentShape bytes)) (written n network′)))
 
-  -- how many records, and every byte of the depth's buffer, by the rows of document 01; a refusal leaves the work buffer too, and nothing
+  -- how many records, and every byte of the depth's buffer, by these rows; a refusal leaves the work buffer too, and nothing
   -- changes its length or its bytes past sixteen for each cell
   pub record Forecasts (r : ℕ) (work′ depth′ : List ℕ) : Type 0 where
     pub answer : r ≡ callNumber verdict (λ f. f .count)
