@@ -16,6 +16,7 @@ use Rattle.rules.specs.Demands.{compiledRecords}
 use Rattle.rules.specs.CompileCall.{mostRecords, tableRoom, lentLimits}
 use Rattle.rules.specs.Forecast.{Forecast, networkDepth, forecastOf, Foretold}
 use Rattle.laws.proofs.ByteLaws.{past-same}
+use Rattle.laws.proofs.CompiledLaws.{few-compiled}
 use Rattle.laws.proofs.DepthLaws.{tree-depth, depth-size, foretold}
 use Rattle.laws.proofs.TestLaws.{pick-ok, passed}
 use Rattle.laws.proofs.TreeLaws.{length-records}
@@ -29,7 +30,7 @@ use Rattle.compile.specs.declared.ForecastAnswer.the-variants.{Figures, 
 use Rattle.compile.specs.Compiling.{tableRows, compileRows, judgedAs, Accepted, Recorded}
 use Rattle.compile.specs.Forecasting.{forecastAnswer, forecastMeans, forecastRows, Foretells, Forecasts}
 use Rattle.compile.proofs.CountLaws.{was-accepted, accepted-records}
-use Rattle.compile.proofs.RowLaws.{Passed, was-unsound, few-records, table, cells-between}
+use Rattle.compile.proofs.RowLaws.{Passed, was-unsound, table, cells-between}
 
 -- two answers
 figures-refused : {A : Type 0} {n d : ℕ} {r : Refusal} → Figures n d ≡ Refused r → A
@@ -45,29 +46,29 @@ forecast-means : (v : Verdict Forecast) → forecastMeans (forecastAnswer v) ≡
 forecast-means (accepted f) = refl
 forecast-means (refused q) = refl
 
--- a network buffer of 49,072 bytes is long enough for every table
-most-enough : (c : ℕ) → c ≤ 1024 → mostRecords c ≤ 3067
-most-enough c h = pick-ok (λ (q : ℕ). q ≤ 3067) (eqb c 1) 1 (3 * c - 5) (λ t. omega arith) (λ n. omega arith)
+-- the room for the largest table's network is enough for every table's
+most-largest : (c : ℕ) → c ≤ 1024 → mostRecords c ≤ mostRecords 1024
+most-largest c h = pick-ok (λ (q : ℕ). q ≤ mostRecords 1024) (eqb c 1) 1 (3 * c - 5) (λ t. omega arith) (λ n. omega arith)
 
-enough : (shape : Shape) → T (isSound shape) → 16 * mostRecords (cells (placesOf shape)) ≤ 49072
-enough shape h =
-    let c = cells-between shape (cells (placesOf shape)) refl (passed (isSound shape) h) in
-    let m = most-enough (cells (placesOf shape)) (c .1) in
-    omega arith
+module _ (shape : Shape) (lower upper work : List ℕ) {network : ℕ} (longest : network ≡ 16 * mostRecords 1024) where
+  enough : T (isSound shape) → 16 * mostRecords (cells (placesOf shape)) ≤ network
+  enough h =
+      let c = cells-between shape (cells (placesOf shape)) refl (passed (isSound shape) h) in
+      let m = most-largest (cells (placesOf shape)) (c .1) in
+      omega arith
 
-module _ (shape : Shape) (lower upper work : List ℕ) where
   abbrev rs : List Record
   rs = compiledRecords (placesOf shape) (shape .m) (lentLimits (placesOf shape) lower upper)
 
   -- the rows of a table whose network has room
   abbrev rows : Verdict (List Record)
-  rows = tableRows shape lower upper (length work) 49072
+  rows = tableRows shape lower upper (length work) network
 
   alike : Foretold (shape .n) (cardsOf shape) (shape .m) (length lower) (length upper) (length work) (lentLimits (placesOf shape) lower upper)
   alike = foretold (shape .n) (cardsOf shape) (shape .m) (length lower) (length upper) (length work) (lentLimits (placesOf shape) lower upper)
 
   told : forecastRows shape lower upper work ≡ andThen rows (λ xs. accepted (forecastOf xs))
-  told = alike 49072 (enough shape)
+  told = alike network enough
 
   -- a refusal
   pub forecast-stops : {r : Refusal} → judged.Refused r ≡ judgedAs rows → Forecasts shape lower upper work (Refused r) work
@@ -85,17 +86,17 @@ module _ (shape : Shape) (lower upper work : List ℕ) where
 
   -- the figures of the table's records are those of the bytes that a compile has left
   foretells-by : {records depth : ℕ} → records ≡ length rs → depth ≡ networkDepth rs → Foretells shape lower upper records depth
-  foretells-by e d work₁ network work₂ network′ n c =
-      let v = was-accepted (compileRows shape lower upper work₁ network) (c .answers) in
-      let same = accepted-records (shape .n) (shape .m) (length lower) (length upper) (length work₁) (length network) (cardsOf shape) (lentLimits (placesOf shape) lower upper) (v .1) in
+  foretells-by e d work₁ net work₂ net′ n c =
+      let v = was-accepted (compileRows shape lower upper work₁ net) (c .answers) in
+      let same = accepted-records (shape .n) (shape .m) (length lower) (length upper) (length work₁) (length net) (cardsOf shape) (lentLimits (placesOf shape) lower upper) (v .1) in
       let k = c .keeps-table n refl in (
         e ∙ ap length same ∙ sym (v .2),
         d ∙ ap networkDepth (sym (ap (networkRecords (placesOf shape)) (k .bytes) ∙ k .compiled .reads)),
       )
 
   -- figures
-  pub forecast-tells : Passed shape lower upper (length work) 49072 → {network : List ℕ} {of : Extent} {work′ network′ : List ℕ}
-      → Recorded shape lower upper work network of work′ network′ → Forecasts shape lower upper work (Figures (of .next) (of .depth)) work′
+  pub forecast-tells : Passed shape lower upper (length work) network → {net : List ℕ} {of : Extent} {work′ net′ : List ℕ}
+      → Recorded shape lower upper work net of work′ net′ → Forecasts shape lower upper work (Figures (of .next) (of .depth)) work′
   forecast-tells ok {of = of} w =
       let e : forecastRows shape lower upper work ≡ accepted (forecastOf rs) = told ∙ ap (λ (v : Verdict (List Record)). andThen v (λ xs. accepted (forecastOf xs))) (ok .rows) in
       let answer : Figures (of .next) (of .depth) ≡ forecastAnswer (forecastRows shape lower upper work) = ap₂ Figures (w .count) (w .depth) ∙ sym (ap forecastAnswer e) in
@@ -141,6 +142,6 @@ told-figures {shape} {lower} {upper} {work} c n d e =
     record {
       count = count;
       depth = depth;
-      few = omega (arith, count, few-records (table shape lower upper ok), most-enough (cells ks) (cells-between shape (cells ks) refl (a .0) .1));
+      few = omega (arith, count, few-compiled (table shape lower upper ok));
       below = omega (arith, count, depth, tree-depth tree, depth-size tree, length-records tree 0);
     }

@@ -23,7 +23,7 @@ use Rattle.laws.proofs.CellLaws.{cells-pos}
 use Rattle.laws.proofs.ByteLaws.{length-networkBytes, past-same}
 use Rattle.laws.proofs.CompiledLaws.{compiled-all}
 use Rattle.laws.proofs.TableLaws.{all-same}
-use Rattle.laws.proofs.TestLaws.{passes, and-r, pick-ok, by-order}
+use Rattle.laws.proofs.TestLaws.{passes, passed, and-l, and-r, pick-ok, by-order}
 use Rattle.laws.proofs.TreeLaws.{length-records}
 use Rattle.laws.proofs.SizeLaws.{compiled-size}
 use Rattle.laws.proofs.VerdictLaws.{row-passed}
@@ -55,10 +55,6 @@ pub was-unsound : (v : Verdict (List Record)) {q : Refusal} → judged.Refused q
 was-unsound (accepted rs) e = let z : _≡_ {A = ℕ} 0 1 = cc in absurd (omega arith)
 was-unsound (refused r) e = cc
 
-and-first : (a b : Bool) → (a && b) ≡ true → a ≡ true
-and-first true b e = refl
-and-first false b e = e
-
 -- the most records are few, and as many as a table's network can have
 pub most-few : (c : ℕ) → 1 ≤ c → mostRecords c ≤ 3 * c
 most-few c h = pick-ok (λ (q : ℕ). q ≤ 3 * c) (eqb c 1) 1 (3 * c - 5) (λ t. omega arith) (λ n. omega arith)
@@ -68,8 +64,8 @@ most-is s c some h =
     pick-ok (λ (q : ℕ). s ≤ q) (eqb c 1) 1 (3 * c - 5) (λ t. let e = eqb→eq c 1 t in omega arith)
     (λ n. by-order c 1 (λ le. let e : 1 ≡ c = omega arith in absurd (n (subst (λ (k : ℕ). T (eqb k 1)) e tt))) (λ lt. omega arith))
 
-pub few-records : {ks : List ℕ} {m : ℕ} {l : Limits} → Table ks m l → length (compiledRecords ks m l) ≤ mostRecords (cells ks)
-few-records {ks} {m} {l} t =
+records-most : {ks : List ℕ} {m : ℕ} {l : Limits} → Table ks m l → length (compiledRecords ks m l) ≤ mostRecords (cells ks)
+records-most {ks} {m} {l} t =
     let h = most-is (size (compiled ks m l)) (cells ks) (cells-pos ks (t .positive)) (compiled-size ks m l (t .positive)) in
     let e = length-records (compiled ks m l) 0 in
     omega arith
@@ -131,14 +127,14 @@ module _ (shape : Shape) (lower upper : List ℕ) (work network : ℕ) where
     pub network-room : 16 * mostRecords (cells ks) ≤ network
     pub rows : tableRows shape lower upper work network ≡ accepted rs
 
-  pub passed : judged.Sound ≡ judgedAs (tableRows shape lower upper work network) → Passed
-  passed e =
+  pub sound-passes : judged.Sound ≡ judgedAs (tableRows shape lower upper work network) → Passed
+  sound-passes e =
       let v = was-sound (tableRows shape lower upper work network) e in
       let a = row-passed (isSound shape) ShapeRange _ (v .1) in
       let b = row-passed (compileRoom (cells ks) (length lower) (length upper) work network) ShortBuffer _ (a .1) in
       let c = row-passed (limitsSound ks (shape .m) l) GradeLimits _ (b .1) in
       record {
-        table = record { shape-sound = a .0; room = and-first (tableRoom (cells ks) (length lower) (length upper) work) _ (b .0); limits-sound = c .0 };
+        table = record { shape-sound = a .0; room = passed (tableRoom (cells ks) (length lower) (length upper) work) (and-l (tableRoom (cells ks) (length lower) (length upper) work) _ (passes (b .0))); limits-sound = c .0 };
         network-room = leb→le _ network (and-r (tableRoom (cells ks) (length lower) (length upper) work) _ (passes (b .0)));
         rows = rows-by true true true (a .0) (b .0) (c .0);
       }
@@ -174,7 +170,7 @@ module _ (shape : Shape) (lower upper work network : List ℕ) where
     given = table shape lower upper (ok .table)
 
     bytes : network′ ≡ networkAfter (accepted records) network
-    bytes = w .bytes (let r = ok .network-room in let f = few-records given in omega arith)
+    bytes = w .bytes (let r = ok .network-room in let f = records-most given in omega arith)
 
     front : take (16 * of .next) network′ ≡ networkBytes records
     front =

@@ -1,5 +1,5 @@
 // Compiling a table to its network, and telling beforehand what that network will have.
-ghost use Prim.Native.Nat.{_≤_};
+ghost use Prim.Native.Nat.{_*_, _≤_};
 ghost use mathlib.Core.Path.{_≡_};
 ghost use lib.ListN.{length};
 ghost use Rattle.rules.specs.CompileCall.{mostRecords, compileRoom};
@@ -33,9 +33,6 @@ enum Judged {
 // The bytes of the work buffer for each cell.
 const WORK: usize = 16;
 
-// The bytes of a network buffer that is long enough for every table: 3,067 records.
-const ENOUGH: usize = 49072;
-
 // Writes the network of a table. The work buffer has 16 bytes for each cell, the network buffer 16
 // for each of the most records that there can be.
 pub fn compile(
@@ -61,7 +58,7 @@ pub fn compile(
 pub fn forecast(shape: Shape, lower: &[u8], upper: &[u8], work: &mut [u8]) -> ForecastAnswer
     ensures { λ r. ⌜ Forecasts shape (now (lower .entry)) (now (upper .entry)) (now (work .entry)) r (now (work .exit)) ⌝ }
 {
-    match judge(shape, lower, upper, work.len(), ENOUGH) {
+    match judge(shape, lower, upper, work.len(), longest_network()) {
         Judged::Refused(refusal) => ForecastAnswer::Refused(refusal),
         Judged::Sound => {
             let mut none = [0u8; 0];
@@ -96,6 +93,13 @@ fn most_records(cells: usize) -> usize
     ensures { λ r. ⌜ r ≡ mostRecords cells ⌝ }
 {
     if cells == 1 { 1 } else { 3 * cells - 5 }
+}
+
+// The bytes of a network buffer that is long enough for every table.
+fn longest_network() -> usize
+    ensures { λ r. ⌜ r ≡ 16 * mostRecords 1024 ⌝ }
+{
+    RECORD * most_records(Shape::MAX_CELLS)
 }
 
 // Whether every lent buffer, by its length, is long enough.

@@ -2,7 +2,7 @@
 use mathlib.Core.Path.{sym, _∙_}
 use lib.ListN.{length}
 use borrow.Author.Needs.{needs}
-use Rattle.compile.proofs.RowLaws.{Passed, passed, stops, writes}
+use Rattle.compile.proofs.RowLaws.{Passed, sound-passes, stops, writes}
 use Rattle.compile.proofs.compile.Statement.{statement}
 use Rattle.compile.proofs.compile.Tie as tie
 
@@ -19,7 +19,7 @@ enum-told c = search needs
 sound : (c : tie.After-enum-told) → (let a = c .before .before .before .before .before .before .before .args in Passed (a .shape) (a .lower .now) (a .upper .now) (length (a .work .now)) (length (a .network .now)))
 sound c =
     let a = c .before .before .before .before .before .before .before .args in
-    passed (a .shape) (a .lower .now) (a .upper .now) (length (a .work .now)) (length (a .network .now)) (sym (c .enum-told .given .1) ∙ c .before .before .judge .ensures)
+    sound-passes (a .shape) (a .lower .now) (a .upper .now) (length (a .work .now)) (length (a .network .now)) (sym (c .enum-told .given .1) ∙ c .before .before .judge .ensures)
 
 build-requires : tie.Need-build-requires
 build-requires c κs = sound (c .before .before) .table
