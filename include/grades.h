@@ -74,7 +74,8 @@ extern "C" {
  *                 bytes 8 to 15: the values of conditions 0 to 7
  * First the conditions, in the order of their numbers; then the grades, once;
  * then cells, each with a greater number than the one before. A cell that is
- * not listed has the limits 0 and m - 1.
+ * not listed has the limits 1 and m - 1: a visit that nobody foresaw leaves
+ * at least a plain line. One that may leave nothing must be listed.
  */
 #define GRADES_SHAPE_BYTES 10
 #define GRADES_RECORD_BYTES 16

@@ -49,13 +49,18 @@ fn random(cards: &[u8], grades: u8) -> OwnedTable {
     function(cards, grades, |_| next())
 }
 
-/// Nine cells of ten may leave any grade, as in a file that lists few cells.
-fn sparse(cards: &[u8], grades: u8) -> OwnedTable {
+/// One cell of ten has a grade; the others may leave any from the least on.
+fn sparse(cards: &[u8], grades: u8, least: u8) -> OwnedTable {
     let mut next = noise();
     OwnedTable::by_rule(cards, grades, |_| {
         let (listed, grade) = (next() % 10 == 0, (next() % grades as usize) as u8);
-        if listed { (grade, grade) } else { (0, grades - 1) }
+        if listed { (grade, grade) } else { (least, grades - 1) }
     })
+}
+
+/// The table of a file that lists one cell of ten.
+fn unlisted(cards: &[u8], grades: u8) -> OwnedTable {
+    sparse(cards, grades, 1)
 }
 
 /// Shapes of 486 to 1,024 cells.
@@ -102,9 +107,10 @@ fn network(table: &OwnedTable) -> Vec<u8> {
     network
 }
 
-fn read(name: &str, table: OwnedTable) -> Case {
+/// Reads a table's file, which lists every cell or those that must be listed.
+fn read(name: &str, table: OwnedTable, every: bool) -> Case {
     let prepare = move || -> Call {
-        let (file, cells) = (table.file(|| true), table.cells());
+        let (file, cells) = (table.file(|| every), table.cells());
         let (mut shape, mut lower, mut upper) = (vec![0; 10], vec![0; cells], vec![0; cells]);
         Box::new(move |calls| calls.read(&file, &mut shape, Limits { lower: &mut lower, upper: &mut upper }))
     };
@@ -209,8 +215,10 @@ fn compiled() -> Vec<(String, Option<&'static str>, OwnedTable)> {
         ("8 8 8 2 sum mod 16", function(&[8, 8, 8, 2], 16, sum)),
         ("8 8 8 2 that joins", joinable()),
         ("monks 2", monks_2()),
-        ("8 2⁷, 90 % don't-cares, m 4", sparse(&LARGEST, 4)),
-        ("8 8 8 2, 90 % don't-cares, m 4", sparse(&[8, 8, 8, 2], 4)),
+        ("8 2⁷, 90 % don't-cares, m 4", sparse(&LARGEST, 4, 0)),
+        ("8 8 8 2, 90 % don't-cares, m 4", sparse(&[8, 8, 8, 2], 4, 0)),
+        ("8 2⁷, 90 % not listed, m 4", unlisted(&LARGEST, 4)),
+        ("8 8 8 2, 90 % not listed, m 4", unlisted(&[8, 8, 8, 2], 4)),
         ("8 2⁷, drawn table 21,194, m 7", drawn(21_194)),
         ("4 4 2⁶, drawn table 34,189, m 14", drawn(34_189)),
     ]
@@ -240,8 +248,9 @@ const FORECAST: [&str; 8] = [
 pub fn all() -> Vec<Case> {
     let halves = Sets { s: 0b0011, t: 0b1100 };
     let mut cases = vec![
-        read("8 cells", parity(&[2; 3])),
-        read("1,024 cells", random(&LARGEST, 16)),
+        read("8 cells", parity(&[2; 3]), true),
+        read("1,024 cells", random(&LARGEST, 16), true),
+        read("1,024 cells, 90 % not listed", unlisted(&LARGEST, 4), false),
         join("first block, 1,024 cells", joinable(), Gate::Min, halves, false),
         join("second block, 1,024 cells", joinable(), Gate::Min, halves, true),
         join("that does not exist, 1,024 cells", parity(&LARGEST), Gate::Max, halves, false),

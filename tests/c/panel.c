@@ -64,6 +64,28 @@ static void expect_damaged(const char *name, size_t record, size_t byte, uint8_t
     check_refused(name, read_file(file, sizeof file, 0, 0, 0), wanted);
 }
 
+/* A cell that is not listed is 1 to m - 1; listed ones, of grade 0 too, are as listed. */
+static void unlisted(void)
+{
+    const char *name = "E without its last cell";
+    static const uint8_t four_grades[GRADES_SHAPE_BYTES] = {2, 2, 2, 0, 0, 0, 0, 0, 0, 4};
+    static const uint8_t least[CELLS] = {0, 1, 1, 1}, most[CELLS] = {0, 1, 1, 3};
+    uint8_t file[6][RECORD];
+
+    check_answer(name, read_file(file_of_e, sizeof file, 10, CELLS, CELLS), 0);
+    check_front(name, shape, sizeof shape, square, sizeof square);
+    check_front(name, lower, sizeof lower, either, CELLS);
+    check_front(name, upper, sizeof upper, either, CELLS);
+
+    name = "the same of four grades";
+    memcpy(file, file_of_e, sizeof file);
+    file[2][1] = 4;
+    check_answer(name, read_file(file, sizeof file, 10, CELLS, CELLS), 0);
+    check_front(name, shape, sizeof shape, four_grades, sizeof four_grades);
+    check_front(name, lower, sizeof lower, least, CELLS);
+    check_front(name, upper, sizeof upper, most, CELLS);
+}
+
 static void reading(void)
 {
     const char *name = "reading";
@@ -73,6 +95,8 @@ static void reading(void)
     check_front(name, shape, sizeof shape, square, sizeof square);
     check_front(name, lower, sizeof lower, odd, CELLS);
     check_front(name, upper, sizeof upper, odd, CELLS);
+
+    unlisted();
 
     check_refused("a file one byte short", read_file(file_of_e, all - 1, 10, CELLS, CELLS),
                   GRADES_REFUSED_FILE_LENGTH);

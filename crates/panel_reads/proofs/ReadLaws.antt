@@ -11,8 +11,10 @@ use Rattle.rules.specs.declared.Refusal.the-variants.{ShortBuffer}
 use Rattle.rules.specs.Refusal.{refusalNumber}
 use Rattle.rules.specs.Cell.{cells}
 use Rattle.rules.specs.Shape.{places}
+use Rattle.rules.specs.Limits.{limitsOf}
 use Rattle.rules.specs.Verdict.{Verdict, accepted, refused, unless, andThen}
-use Rattle.rules.specs.TableFile.{Seen, judgeFile, judgeReading}
+use Rattle.rules.specs.TableFile.{Seen, judgeFile, judgeReading, AsListed}
+use Rattle.laws.proofs.VerdictLaws.{refused-accepted}
 use Rattle.shape.specs.declared.Shape.{Shape}
 use Rattle.shape.specs.Shapes.{shapeBytes}
 use Rattle.table_file.specs.declared.TableAnswer.{TableAnswer}
@@ -61,13 +63,15 @@ module _ (file shape lower upper : List ℕ) where
   verdict = readVerdict file (length shape) (length lower) (length upper)
 
   by-verdict : (v : Verdict Seen) (r : ℕ) (shape′ lower′ upper′ : List ℕ) → verdict ≡ v → r ≡ callNumber v (λ s. 0) → shape′ ≡ shapeAfter v shape → lower′ ≡ lowerAfter file v lower → upper′ ≡ upperAfter file v upper
+      → ((s : Seen) → v ≡ accepted s → AsListed file s (limitsOf lower′ upper′))
       → Reads file shape lower upper r shape′ lower′ upper′
-  by-verdict v r shape′ lower′ upper′ e number at-shape at-lower at-upper =
+  by-verdict v r shape′ lower′ upper′ e number at-shape at-lower at-upper written =
       record {
         answer = number ∙ ap (λ (w : Verdict Seen). callNumber w (λ s. 0)) (sym e);
         shape-after = at-shape ∙ ap (λ (w : Verdict Seen). shapeAfter w shape) (sym e);
         lower-after = at-lower ∙ ap (λ (w : Verdict Seen). lowerAfter file w lower) (sym e);
         upper-after = at-upper ∙ ap (λ (w : Verdict Seen). upperAfter file w upper) (sym e);
+        as-listed = λ s q. written s (sym e ∙ q);
       }
 
   -- there is no room for the shape
@@ -78,7 +82,7 @@ module _ (file shape lower upper : List ℕ) where
       (ap (λ (b : Bool). andThen judged (λ s. unless b ShortBuffer (accepted s))) (lt-leb 10 (length shape) short)
       ∙ stops-all (judgeFile file) (λ s. leb (cells (places (s .cards))) (length lower) && leb (cells (places (s .cards))) (length upper))
       ∙ q .1)
-      (number ∙ ap (λ (v : Verdict Seen). callNumber v (λ s. 0)) (q .1)) refl refl refl
+      (number ∙ ap (λ (v : Verdict Seen). callNumber v (λ s. 0)) (q .1)) refl refl refl (λ s e. refused-accepted e)
 
   -- there is
   module _ (room : 10 ≤ length shape) where
@@ -91,7 +95,7 @@ module _ (file shape lower upper : List ℕ) where
         by-verdict judged r shape lower′ upper′ same
         (number ∙ sym (ap (λ (v : Verdict Seen). callNumber v (λ s. 0)) was))
         (sym (ap (λ (v : Verdict Seen). shapeAfter v shape) was))
-        (read .lower-after) (read .upper-after)
+        (read .lower-after) (read .upper-after) (read .as-listed)
 
     pub reads : (t : TableAnswer) (x : Shape) (shape′ lower′ upper′ : List ℕ) → t ≡ Table x → Read file lower upper t lower′ upper′ → shape′ ≡ shapeBytes x ++ drop 10 shape → Reads file shape lower upper 0 shape′ lower′ upper′
     reads t x shape′ lower′ upper′ e read put =
@@ -99,4 +103,4 @@ module _ (file shape lower upper : List ℕ) where
         by-verdict judged 0 shape′ lower′ upper′ same
         (sym (ap (λ (v : Verdict Seen). callNumber v (λ s. 0)) (was .1)))
         (put ∙ ap (λ (y : Shape). shapeBytes y ++ drop 10 shape) (was .2) ∙ sym (ap (λ (v : Verdict Seen). shapeAfter v shape) (was .1)))
-        (read .lower-after) (read .upper-after)
+        (read .lower-after) (read .upper-after) (read .as-listed)

@@ -5,8 +5,9 @@ use mathlib.Core.List.{List, _++_}
 use lib.Dec.{leb}
 use lib.ListN.{length, drop}
 use Rattle.rules.specs.declared.Refusal.the-variants.{ShortBuffer}
+use Rattle.rules.specs.Limits.{limitsOf}
 use Rattle.rules.specs.Verdict.{Verdict, accepted, refused, unless, andThen}
-use Rattle.rules.specs.TableFile.{Seen, judgeFile, judgeReading}
+use Rattle.rules.specs.TableFile.{Seen, judgeFile, judgeReading, AsListed}
 use Rattle.shape.specs.Shapes.{shapeFrom, shapeBytes}
 use Rattle.table_file.specs.Reading.{lowerAfter, upperAfter}
 use Rattle.panel_answers.specs.Answers.{callNumber}
@@ -34,3 +35,5 @@ module _ (file shape lower upper : List ℕ) where
     pub shape-after : shape′ ≡ shapeAfter verdict shape
     pub lower-after : lower′ ≡ lowerAfter file verdict lower
     pub upper-after : upper′ ≡ upperAfter file verdict upper
+    -- accepted, what was written is, cell by cell, what the file lists
+    pub as-listed : (s : Seen) → verdict ≡ accepted s → AsListed file s (limitsOf lower′ upper′)

@@ -132,17 +132,16 @@ fn table_e() -> File {
     square([0, 1, 1, 0], [0, 1, 1, 0])
 }
 
-// 01's table F, the example of 000: its third cell is not listed.
-fn table_f() -> File {
-    empty()
+// 01's table F, the example of 000; its third cell, which may leave anything, is listed or not.
+fn table_f(third: bool) -> File {
+    let start = empty()
         .condition(0, 2)
         .condition(1, 3)
         .grades(3)
         .cell(1, 2, 0, 0)
-        .cell(0, 1, 1, 0)
-        .cell(0, 0, 1, 1)
-        .cell(2, 2, 0, 2)
-        .cell(1, 2, 1, 2)
+        .cell(0, 1, 1, 0);
+    let listed = if third { start.cell(0, 2, 0, 1) } else { start };
+    listed.cell(0, 0, 1, 1).cell(2, 2, 0, 2).cell(1, 2, 1, 2)
 }
 
 fn lengths() {
@@ -210,6 +209,16 @@ fn tables() {
     try_file(b"no conditions", empty().grades(4).cell(1, 3, 0, 0), 2);
     try_file(b"no cell listed", empty().condition(0, 2).grades(2), 2);
     try_file(
+        b"no cell of four grades listed",
+        empty().condition(0, 2).grades(4),
+        2,
+    );
+    try_file(
+        b"one condition, its value 1 not listed",
+        empty().condition(0, 2).grades(2).cell(0, 0, 0, 0),
+        2,
+    );
+    try_file(
         b"one condition",
         empty()
             .condition(0, 2)
@@ -222,7 +231,8 @@ fn tables() {
     try_file(b"both", square([0, 0, 0, 1], [0, 0, 0, 1]), 4);
     try_file(b"either or both", square([0, 0, 0, 1], [0, 1, 1, 1]), 4);
     try_file(b"E", table_e(), 6);
-    try_file(b"F", table_f(), 8);
+    try_file(b"F", table_f(true), 8);
+    try_file(b"F without its third cell", table_f(false), 8);
 }
 
 fn main() {

@@ -7,7 +7,7 @@ use Rattle.rules.specs.Bytes.{at, all}
 use Rattle.rules.specs.Cell.{cells}
 
 -- the lower and the upper grade of each cell. In the field: an interval of functions, those with a grade between the two at every cell.
--- A cell with the limits 0 and m − 1, as one that a table file does not list, is a don't-care
+-- A cell with the limits 0 and m − 1 is a don't-care
 pub record Limits : Type 0 where
   pub lower : List ℕ
   pub upper : List ℕ

@@ -67,21 +67,33 @@ parity = 0 ∷ 1 ∷ 1 ∷ 0 ∷ 1 ∷ 0 ∷ 0 ∷ 1 ∷ []
 abbrev pub compileE : List ℕ → ℕ → ℕ → ℕ
 compileE l work net = verdictNumber (compileCall 2 (cardBytes two) 2 4 4 work net (limits l E))
 
--- a record of a table file: its first bytes, and zeros; E's file
+-- a record of a table file: its first bytes, and zeros
 abbrev pub fileRecord : List ℕ → List ℕ
 fileRecord r = r ++ replicate (16 - length r) 0
 
+-- the head of a file: two conditions of two values, m grades
+abbrev pub headOf : ℕ → List ℕ
+headOf m = fileRecord (1 ∷ 0 ∷ 2 ∷ []) ++ fileRecord (1 ∷ 1 ∷ 2 ∷ []) ++ fileRecord (2 ∷ m ∷ [])
+
 abbrev pub headE : List ℕ
-headE = fileRecord (1 ∷ 0 ∷ 2 ∷ []) ++ fileRecord (1 ∷ 1 ∷ 2 ∷ []) ++ fileRecord (2 ∷ 2 ∷ [])
+headE = headOf 2
 
 abbrev pub cellRecordOf : ℕ → ℕ → ℕ → ℕ → List ℕ
 cellRecordOf l u v w = fileRecord (3 ∷ l ∷ u ∷ 0 ∷ 0 ∷ 0 ∷ 0 ∷ 0 ∷ v ∷ w ∷ [])
 
+-- E's file
 abbrev pub fileE : List ℕ
 fileE = headE ++ cellRecordOf 0 0 0 0 ++ cellRecordOf 1 1 1 0 ++ cellRecordOf 1 1 0 1 ++ cellRecordOf 0 0 1 1
 
 abbrev pub seenE : Seen
 seenE = record { n = 2; cards = cardBytes two; m = 2; next = 4 }
+
+-- four grades; of the four cells it lists two, one of which may leave nothing and one anything
+abbrev pub fileSome : List ℕ
+fileSome = headOf 4 ++ cellRecordOf 0 0 1 0 ++ cellRecordOf 0 3 0 1
+
+abbrev pub seenSome : Seen
+seenSome = record { n = 2; cards = cardBytes two; m = 4; next = 3 }
 
 -- the refusal of a file; 0 if none
 abbrev pub fileNumber : List ℕ → ℕ
@@ -176,7 +188,10 @@ Small =
     -- reading: E's file, and one for each refusal, the order of rows 2, 3, 6, 5 among them
     × (judgeFile fileE ≡ accepted seenE)
     × (fileLimits fileE seenE ≡ limits E E)
-    × (fileLimits headE seenE ≡ limits (replicate 4 0) (replicate 4 1))
+    -- a cell that is not listed: 1 to m − 1, of two grades 1 alone; a listed one as it is listed, 0 to 0 and 0 to m − 1 among them
+    × (fileLimits headE seenE ≡ limits (replicate 4 1) (replicate 4 1))
+    × (judgeFile fileSome ≡ accepted seenSome)
+    × (fileLimits fileSome seenSome ≡ limits (1 ∷ 0 ∷ 0 ∷ 1 ∷ []) (3 ∷ 0 ∷ 3 ∷ 3 ∷ []))
     × (fileNumber (headE ++ 0 ∷ []) ≡ 1)
     × (fileNumber (headE ++ fileRecord (4 ∷ [])) ≡ 2)
     × (fileNumber (fileRecord (3 ∷ 0 ∷ 0 ∷ 0 ∷ 0 ∷ 0 ∷ 0 ∷ 0 ∷ 1 ∷ [])) ≡ 2)

@@ -1,15 +1,18 @@
--- Rows for the listing: 01's listing of E, from its table file; a line of each kind; numbers of one to five digits; every refusal.
+-- Rows for the listing: 01's listing of E, from its table file; a file that lists no cell; a line of each kind; numbers of one to five
+-- digits; every refusal.
 use mathlib.Core.Path.{_≡_}
 use mathlib.Core.List.{[], _∷_}
 use Rattle.rules.specs.declared.Gate.the-variants.{Min, Max}
 use Rattle.rules.specs.declared.Refusal.the-variants.{FileLength, RecordBytes, RecordOrder, ShapeRange, GradeLimits, CellValues, Sets, NoJoin, FirstBlock, ShortBuffer, Network, CellNumber}
 use Rattle.rules.specs.Network.{constant, literal, gate}
 use Rattle.rules.specs.Listing.{text, decimal, recordLine, listing, refusalLine, answerTo}
-use Rattle.rules.specs.Small.{network, fileRecord, fileE}
+use Rattle.rules.specs.Small.{network, fileRecord, headE, fileE}
 
 abbrev pub SmallListings : Type 0
 SmallListings =
     (answerTo fileE ≡ text "0 L 0 1 0\n1 L 1 0 1\n2 MIN 0 1\n3 L 0 0 1\n4 L 1 1 0\n5 MIN 3 4\n6 MAX 2 5\nrecords 7\n")
+    -- no cell listed: a line at every visit
+    × (answerTo headE ≡ text "0 C 1\nrecords 1\n")
     -- no file, no grades record, too many grades
     × (answerTo [] ≡ text "refused 1\n")
     × (answerTo (fileRecord (1 ∷ 0 ∷ 2 ∷ [])) ≡ text "refused 3\n")

@@ -1,5 +1,6 @@
 -- 01, Tables and cells: table files. Records are judged one after the other, each by all of its rows of "Places where a call stops".
-use Prim.Native.Nat.{ℕ, zero, suc, _+_, _-_, _*_, _/_, _%_}
+use Prim.Native.Nat.{ℕ, zero, suc, _+_, _-_, _*_, _/_, _%_, _<_}
+use mathlib.Core.Path.{_≡_}
 use mathlib.Core.Bool.{not, cond, _&&_}
 use mathlib.Core.List.{List}
 use lib.Dec.{leb, ltb, eqb}
@@ -86,9 +87,9 @@ abbrev pub listedOver : List ℕ → List ℕ → ℕ → ℕ → ℕ → List �
 listedOver file ks j k zero t = t
 listedOver file ks j k (suc n) t = listedOver file ks j (suc k) n (laidOver (recordAt file k) ks j t)
 
--- the limits of a cell that is not listed: a don't-care
+-- the limits of a cell that is not listed. A visit of a kind that nobody foresaw leaves at least a plain line: any grade but 0
 abbrev pub unlistedLower : Seen → ℕ
-unlistedLower s = 0
+unlistedLower s = 1
 
 abbrev pub unlistedUpper : Seen → ℕ
 unlistedUpper s = s .m - 1
@@ -100,3 +101,19 @@ fileLimits file s =
       lower = listedOver file (places (s .cards)) 1 0 (length file / 16) (replicate (cells (places (s .cards))) (unlistedLower s));
       upper = listedOver file (places (s .cards)) 2 0 (length file / 16) (replicate (cells (places (s .cards))) (unlistedUpper s));
     }
+
+-- What is claimed of the limits, cell by cell.
+
+-- record k of the file lists cell c, over the places ks; no record does
+abbrev pub Lists : List ℕ → List ℕ → ℕ → ℕ → Type 0
+Lists file ks k c = (k < length file / 16) × (at (recordAt file k) 0 ≡ 3) × (listedCell ks (recordAt file k) ≡ c)
+
+abbrev pub Unlisted : List ℕ → List ℕ → ℕ → Type 0
+Unlisted file ks c = (k : ℕ) → Lists file ks k c → ⊥
+
+module _ (file : List ℕ) (s : Seen) where
+  pub record AsListed (l : Limits) : Type 0 where
+    -- a listed cell has the two grades of its record, whatever they are
+    pub listed : (k c : ℕ) → Lists file (places (s .cards)) k c → (at (l .lower) c ≡ at (recordAt file k) 1) × (at (l .upper) c ≡ at (recordAt file k) 2)
+    -- any other cell has 1 and m − 1
+    pub unlisted : (c : ℕ) → c < cells (places (s .cards)) → Unlisted file (places (s .cards)) c → (at (l .lower) c ≡ 1) × (at (l .upper) c ≡ s .m - 1)

@@ -1,5 +1,6 @@
 -- Laws of reading a table file.
 pub mod ListedLaws
 pub mod FileLaws
+pub mod AsListedLaws
 pub mod ReadLaws
 pub mod FileTableLaws

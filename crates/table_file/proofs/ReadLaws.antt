@@ -1,8 +1,8 @@
 -- The promise of the reading call, case by case.
 use Prim.Native.Nat.{ℕ}
-use mathlib.Core.Path.{_≡_, refl, sym, _∙_, ap}
+use mathlib.Core.Path.{_≡_, refl, sym, _∙_, ap, subst}
 use mathlib.Core.Bool.{Bool, true, false, _&&_}
-use mathlib.Core.List.{List, _++_}
+use mathlib.Core.List.{List}
 use native.Mathlib.Omega.{arith}
 use lib.Dec.{leb}
 use lib.ListN.{length, drop}
@@ -10,12 +10,16 @@ use Rattle.rules.specs.declared.Refusal.{Refusal}
 use Rattle.rules.specs.declared.Refusal.the-variants.{ShortBuffer}
 use Rattle.rules.specs.Cell.{cells}
 use Rattle.rules.specs.Shape.{places}
+use Rattle.rules.specs.Limits.{limitsOf}
 use Rattle.rules.specs.Verdict.{Verdict, accepted, refused, unless, andThen, answerOf}
-use Rattle.rules.specs.TableFile.{Seen, judgeFile, judgeReading, fileLimits}
+use Rattle.rules.specs.TableFile.{Seen, judgeFile, judgeReading, AsListed}
+use Rattle.laws.proofs.VerdictLaws.{last-passed}
 use Rattle.shape.specs.declared.Shape.{Shape}
 use Rattle.shape.specs.Shapes.{shapeFrom, shapeBytes}
 use Rattle.table_file.specs.declared.TableAnswer.the-variants.{Table, Refused}
 use Rattle.table_file.specs.Reading.{readAnswer, lowerAfter, upperAfter, Read, tableMeans}
+use Rattle.table_file.proofs.FileLaws.{accepted-file}
+use Rattle.table_file.proofs.AsListedLaws.{as-listed}
 
 -- two answers
 table-refused : {P : Type 0} {x : Shape} {q : Refusal} → Table x ≡ Refused q → P
@@ -35,9 +39,16 @@ table-means (accepted s) = refl
 table-means (refused q) = refl
 
 module _ (file lower upper : List ℕ) where
+  written : (s : Seen) → judgeReading file (length lower) (length upper) ≡ accepted s → AsListed file s (limitsOf (lowerAfter file (accepted s) lower) (upperAfter file (accepted s) upper))
+  written s e =
+      as-listed file s
+      (accepted-file file s (last-passed (judgeFile file) (λ t. leb (cells (places (t .cards))) (length lower) && leb (cells (places (t .cards))) (length upper)) ShortBuffer e))
+      (drop (cells (places (s .cards))) lower) (drop (cells (places (s .cards))) upper)
+
   by-verdict : (v : Verdict Seen) → judgeReading file (length lower) (length upper) ≡ v → Read file lower upper (readAnswer v) (lowerAfter file v lower) (upperAfter file v upper)
   by-verdict v e =
       record {
+        as-listed = λ s q. subst (λ (w : Verdict Seen). AsListed file s (limitsOf (lowerAfter file w lower) (upperAfter file w upper))) (sym q ∙ e) (written s q);
         answer = ap readAnswer (sym e);
         means = table-means v ∙ ap (answerOf (λ (s : Seen). shapeBytes (shapeFrom (s .n) (s .cards) (s .m)))) (sym e);
         lower-after = ap (λ (w : Verdict Seen). lowerAfter file w lower) (sym e);
@@ -63,6 +74,9 @@ module _ (file lower upper : List ℕ) where
 
     -- the table is written
     pub read-table : (leb (cells (places (s .cards))) (length lower) && leb (cells (places (s .cards))) (length upper)) ≡ true
-        → Read file lower upper (Table (shapeFrom (s .n) (s .cards) (s .m)))
-        (fileLimits file s .lower ++ drop (cells (places (s .cards))) lower) (fileLimits file s .upper ++ drop (cells (places (s .cards))) upper)
-    read-table r = by-verdict (accepted s) (with-room true r)
+        → (x : Shape) → x ≡ shapeFrom (s .n) (s .cards) (s .m) → (lower′ upper′ : List ℕ) → lower′ ≡ lowerAfter file (accepted s) lower → upper′ ≡ upperAfter file (accepted s) upper
+        → Read file lower upper (Table x) lower′ upper′
+    read-table r x shape lower′ upper′ low high =
+        subst (λ (y : Shape). Read file lower upper (Table y) lower′ upper′) (sym shape)
+        (subst (λ (l : List ℕ). Read file lower upper (readAnswer (accepted s)) l upper′) (sym low)
+        (subst (λ (u : List ℕ). Read file lower upper (readAnswer (accepted s)) (lowerAfter file (accepted s) lower) u) (sym high) (by-verdict (accepted s) (with-room true r))))

@@ -6,9 +6,10 @@ use lib.ListN.{length, drop}
 use Rattle.rules.specs.Bytes.{at, recordAt}
 use Rattle.rules.specs.Cell.{cells, card}
 use Rattle.rules.specs.Shape.{places}
+use Rattle.rules.specs.Limits.{limitsOf}
 use Rattle.rules.specs.Verdict.{Verdict, accepted, refused, Answer, granted, denied, answerOf}
 use Rattle.rules.specs.TableFile as TableFile
-use Rattle.rules.specs.TableFile.{judgeReading, fileLimits}
+use Rattle.rules.specs.TableFile.{judgeReading, fileLimits, AsListed}
 use Rattle.shape.specs.Shapes.{shapeFrom, shapeBytes}
 use Rattle.table_file.specs.declared.TableAnswer.{TableAnswer}
 use Rattle.table_file.specs.declared.TableAnswer.the-variants.{Table, Refused}
@@ -45,3 +46,5 @@ pub record Read (file lower upper : List ℕ) (r : TableAnswer) (lower′ upper�
   pub means : tableMeans r ≡ answerOf (λ s. shapeBytes (shapeFrom (s .n) (s .cards) (s .m))) (judgeReading file (length lower) (length upper))
   pub lower-after : lower′ ≡ lowerAfter file (judgeReading file (length lower) (length upper)) lower
   pub upper-after : upper′ ≡ upperAfter file (judgeReading file (length lower) (length upper)) upper
+  -- accepted, what was written is, cell by cell, what the file lists
+  pub as-listed : (s : TableFile.Seen) → judgeReading file (length lower) (length upper) ≡ accepted s → AsListed file s (limitsOf lower′ upper′)

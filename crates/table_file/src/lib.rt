@@ -17,6 +17,9 @@ pub enum TableAnswer {
 // 01, Places where a call stops: the longest table file.
 const MAX_LENGTH: usize = 16528;
 
+// What a visit of a kind that the file does not list leaves at least: a plain line.
+const UNLISTED_LOWER: u8 = 1;
+
 // The verdict on a file, whatever buffers there are for its limits.
 pub fn judge(file: &[u8]) -> Judged
     ensures { λ r. ⌜ Judges (judgeFile (now (file .entry))) r ⌝ }
@@ -51,7 +54,7 @@ pub fn read_table(file: &[u8], lower: &mut [u8], upper: &mut [u8]) -> TableAnswe
             }
             let ks = shape.places();
             let top = shape.m - 1;
-            writing::write_limits(file, ks, 1, 0, lower);
+            writing::write_limits(file, ks, 1, UNLISTED_LOWER, lower);
             writing::write_limits(file, ks, 2, top, upper);
             TableAnswer::Table(shape)
         }

@@ -106,13 +106,15 @@ row-of : (P : Seen → Type 0) (b : Bool) (q : Refusal) (v : Verdict Seen) → (
 row-of P true q v h = h tt
 row-of P false q v h = tt
 
--- what one accepted record adds: conditions only before there are grades; a cell record comes after, and names a cell
+-- what one accepted record adds: conditions only before there are grades; a cell record comes after, and names a cell above those before
 pub record Step (s : Seen) (r : List ℕ) (t : Seen) : Type 0 where
   pub kept : InRange t
   pub settled : (s .m ≡ 0 → ⊥) → (t .cards ≡ s .cards) × (t .m ≡ 0 → ⊥)
   pub same-grades : (s .m ≡ 0 → ⊥) → t .m ≡ s .m
   pub cell : at r 0 ≡ 3 → (s .m ≡ 0 → ⊥) × ((i : ℕ) → i < 8 → at r (8 + i) < card (places (s .cards)) i)
   pub limits : at r 0 ≡ 3 → (at r 1 ≤ at r 2) × (at r 2 < s .m)
+  pub after : at r 0 ≡ 3 → (s .next ≤ listedCell (places (s .cards)) r) × (t .next ≡ listedCell (places (s .cards)) r + 1)
+  pub grows : s .next ≤ t .next
 
 module _ (s : Seen) (r : List ℕ) (k : InRange s) where
   kept-same : (m next : ℕ) → ((m ≡ 0 → ⊥) → (2 ≤ m) × (m ≤ 16)) → InRange (record { n = s .n; cards = s .cards; m = m; next = next })
@@ -151,34 +153,44 @@ module _ (s : Seen) (r : List ℕ) (k : InRange s) where
           subst (λ (q : ℕ). (2 ≤ q) × (q ≤ 8)) (sym e) (two, leb→le (at r 2) 8 (and-r (leb 2 (at r 2)) (leb (at r 2) 8) in-range))
 
   -- a record of kind i, which is no cell, before there are grades
-  early-step : (i : ℕ) (t : Seen) → i < 3 → T (eqb (at r 0) i) → T (eqb (s .m) 0) → InRange t → Step s r t
-  early-step i t h e z kt =
+  early-step : (i : ℕ) (t : Seen) → i < 3 → T (eqb (at r 0) i) → T (eqb (s .m) 0) → t .next ≡ s .next → InRange t → Step s r t
+  early-step i t h e z same kt =
       record {
         kept = kt;
         settled = λ n. absurd (n (eqb→eq (s .m) 0 z));
         same-grades = λ n. absurd (n (eqb→eq (s .m) 0 z));
-        cell = λ c. absurd (omega (arith, eqb→eq (at r 0) i e));
-        limits = λ c. absurd (omega (arith, eqb→eq (at r 0) i e));
+        cell = λ c. absurd (no-cell c);
+        limits = λ c. absurd (no-cell c);
+        after = λ c. absurd (no-cell c);
+        grows = omega (arith, same);
       }
+    where
+      no-cell : at r 0 ≡ 3 → ⊥
+      no-cell c = omega (arith, eqb→eq (at r 0) i e)
 
   abbrev values : Bool
   values = all 8 (λ i. ltb (at r (8 + i)) (card (places (s .cards)) i))
 
-  abbrev after : Bool
-  after = leb (s .next) (listedCell (places (s .cards)) r)
+  abbrev rises : Bool
+  rises = leb (s .next) (listedCell (places (s .cards)) r)
 
-  cell-step : (next : ℕ) → T (not (eqb (s .m) 0)) → T (values && after) → T (leb (at r 1) (at r 2) && ltb (at r 2) (s .m)) → Step s r (record { n = s .n; cards = s .cards; m = s .m; next = next })
-  cell-step next z v d =
+  cell-step : T (not (eqb (s .m) 0)) → T (values && rises) → T (leb (at r 1) (at r 2) && ltb (at r 2) (s .m)) → Step s r (record { n = s .n; cards = s .cards; m = s .m; next = listedCell (places (s .cards)) r + 1 })
+  cell-step z v d =
       record {
-        kept = kept-same (s .m) next (k .grades);
+        kept = kept-same (s .m) _ (k .grades);
         settled = λ n. (refl, n);
         same-grades = λ n. refl;
         limits = λ e. (leb→le _ _ (and-l (leb (at r 1) (at r 2)) (ltb (at r 2) (s .m)) d), ltb→lt _ _ (and-r (leb (at r 1) (at r 2)) (ltb (at r 2) (s .m)) d));
         cell = λ e. (
           (λ q. T-not (eqb (s .m) 0) z (subst (λ (n : ℕ). T (eqb n 0)) (sym q) tt)),
-          (λ i h. ltb→lt _ _ (all-at 8 (λ i. ltb (at r (8 + i)) (card (places (s .cards)) i)) (and-l values after v) i h)),
+          (λ i h. ltb→lt _ _ (all-at 8 (λ i. ltb (at r (8 + i)) (card (places (s .cards)) i)) (and-l values rises v) i h)),
         );
+        after = λ e. (above, refl);
+        grows = omega (arith, above);
       }
+    where
+      above : s .next ≤ listedCell (places (s .cards)) r
+      above = leb→le _ _ (and-r values rises v)
 
   step-of : Of (Step s r) (tableRecord s r)
   step-of =
@@ -187,21 +199,21 @@ module _ (s : Seen) (r : List ℕ) (k : InRange s) where
       row-of (Step s r) (zeros r 3 16) _ _
       (λ a.
       row-of (Step s r) (eqb (s .m) 0 && eqb (at r 1) (s .n)) _ _
-      (λ b. row-of (Step s r) one-more _ _ (λ c. early-step 1 _ (omega arith) e (and-l (eqb (s .m) 0) _ b) (kept-more c)))))
+      (λ b. row-of (Step s r) one-more _ _ (λ c. early-step 1 _ (omega arith) e (and-l (eqb (s .m) 0) _ b) refl (kept-more c)))))
       (λ n.
       cond-ok (Of (Step s r)) (eqb (at r 0) 2) (gradesRecord s r) _
       (λ e.
       row-of (Step s r) (zeros r 2 16) _ _
       (λ a.
       row-of (Step s r) (eqb (s .m) 0) _ _
-      (λ b. row-of (Step s r) (leb 2 (at r 1) && leb (at r 1) 16) _ _ (λ c. early-step 2 _ (omega arith) e b (kept-same (at r 1) (s .next) (λ n. (leb→le 2 (at r 1) (and-l (leb 2 (at r 1)) (leb (at r 1) 16) c), leb→le (at r 1) 16 (and-r (leb 2 (at r 1)) (leb (at r 1) 16) c))))))))
+      (λ b. row-of (Step s r) (leb 2 (at r 1) && leb (at r 1) 16) _ _ (λ c. early-step 2 _ (omega arith) e b refl (kept-same (at r 1) (s .next) (λ n. (leb→le 2 (at r 1) (and-l (leb 2 (at r 1)) (leb (at r 1) 16) c), leb→le (at r 1) 16 (and-r (leb 2 (at r 1)) (leb (at r 1) 16) c))))))))
       (λ n.
       cond-ok (Of (Step s r)) (eqb (at r 0) 3) (cellRecord s r) (refused RecordBytes)
       (λ e.
       row-of (Step s r) (zeros r 3 8 && zeros r (8 + s .n) 16) _ _
       (λ a.
       row-of (Step s r) (not (eqb (s .m) 0)) _ _
-      (λ b. row-of (Step s r) (values && after) _ _ (λ c. row-of (Step s r) (leb (at r 1) (at r 2) && ltb (at r 2) (s .m)) _ _ (λ d. cell-step _ b c d)))))
+      (λ b. row-of (Step s r) (values && rises) _ _ (λ c. row-of (Step s r) (leb (at r 1) (at r 2) && ltb (at r 2) (s .m)) _ _ (λ d. cell-step b c d)))))
       (λ n. tt)))
 
   pub accepted-step : (t : Seen) → tableRecord s r ≡ accepted t → Step s r t

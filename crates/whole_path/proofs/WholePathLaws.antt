@@ -16,7 +16,7 @@ use Rattle.rules.specs.Limits.{Limits, limitsOf, limitsSound}
 use Rattle.rules.specs.Network.{Record, networkRecords, networkSound, evaluate}
 use Rattle.rules.specs.NetworkCalls.{checkFrom}
 use Rattle.rules.specs.Verdict.{Verdict, accepted, verdictNumber, roomy}
-use Rattle.rules.specs.TableFile.{Seen, fileLimits, judgeFile, judgeReading}
+use Rattle.rules.specs.TableFile.{Seen, fileLimits, judgeFile, judgeReading, AsListed}
 use Rattle.rules.specs.Demands.{Between, compiledRecords}
 use Rattle.rules.specs.CompileCall.{mostRecords, compileRoom, lentLimits}
 use Rattle.rules.specs.Forecast.{networkDepth}
@@ -138,6 +138,10 @@ module _ (file shape lower upper shape′ lower′ upper′ : List ℕ) (got : R
   unfolding verdict s
   upper-is = got .upper-after ∙ ap (λ (v : Verdict Seen). upperAfter file v upper) (read .1)
 
+  listed : AsListed file s (limitsOf lower′ upper′)
+  unfolding verdict s
+  listed = got .as-listed (read .0) (read .1)
+
   -- the places of the shape that was written, and its cells
   lent-places : placesOf (lentShape (take 10 shape′)) ≡ places (s .cards)
   lent-places = ap (λ (b : List ℕ). placesOf (lentShape b)) bytes ∙ same-places
@@ -168,15 +172,20 @@ module _ (file shape lower upper shape′ lower′ upper′ : List ℕ) (got : R
     counted : n < 65536
     counted = omega (arith, done .answer ∙ ap (λ (v : Verdict (List Record)). callNumber v length) accepts, few-compiled (file-table file s whole))
 
+    -- evaluated, the network is within the limits that were written
+    within : (cell : ℕ) → cell < cells (places (s .cards)) → (w after : List ℕ) (q : ℕ) → n ≤ length w → Evaluates (take (16 * n) network′) (take 10 shape′) cell w after q
+        → Between (limitsOf lower′ upper′) cell q
+    within cell h w after q room found =
+        evaluates-within (take 10 shape′) lower′ upper′ work network n work′ network′ done counted w room cell (subst (λ (c : ℕ). cell < c) (sym same-cells) h) after q found
+
     pub followed : Followed file shape′ lower′ upper′ n network′
     followed =
         record {
           table = s;
           holds = judged;
           compiled = counted;
-          evaluated = λ cell h w after q room found.
-              at-file cell q h
-              (evaluates-within (take 10 shape′) lower′ upper′ work network n work′ network′ done counted w room cell (subst (λ (c : ℕ). cell < c) (sym same-cells) h) after q found);
+          evaluated = λ cell h w after q room found. at-file cell q h (within cell h w after q room found);
+          unforeseen = λ cell h none w after q room found. omega (arith, listed .unlisted cell h none .0, within cell h w after q room found .0);
           checked = λ w after r room found. checks-within (take 10 shape′) lower′ upper′ work network n work′ network′ done counted w room after r found;
           foretold = λ w depth w′ depth′ count found h.
               let f = found .foretells h work network work′ network′ n done counted in

@@ -9,7 +9,7 @@ use Rattle.rules.specs.Bytes.{word}
 use Rattle.rules.specs.Cell.{cells}
 use Rattle.rules.specs.Shape.{places}
 use Rattle.rules.specs.Verdict.{accepted}
-use Rattle.rules.specs.TableFile.{Seen, judgeFile, fileLimits}
+use Rattle.rules.specs.TableFile.{Seen, judgeFile, fileLimits, Unlisted}
 use Rattle.rules.specs.Network.{networkRecords}
 use Rattle.rules.specs.CompileCall.{mostRecords}
 use Rattle.rules.specs.Forecast.{networkDepth}
@@ -38,6 +38,9 @@ module _ (file shape lower upper : List ℕ) (n : ℕ) (network : List ℕ) wher
     -- evaluated at any cell, the network gives a grade within the file's limits of that cell
     pub evaluated : (cell : ℕ) → cell < cells (places (table .cards)) → (work after : List ℕ) (grade : ℕ) → n ≤ length work
         → Evaluates networkLent shapeLent cell work after grade → Between (fileLimits file table) cell grade
+    -- and never 0 at a cell that the file does not list: a visit that nobody foresaw leaves a line
+    pub unforeseen : (cell : ℕ) → cell < cells (places (table .cards)) → Unlisted file (places (table .cards)) cell → (work after : List ℕ) (grade : ℕ) → n ≤ length work
+        → Evaluates networkLent shapeLent cell work after grade → 1 ≤ grade
     -- a check of it against the limits that were read finds every cell within
     pub checked : (work after : List ℕ) (answer : ℕ) → n ≤ length work → Checks networkLent shapeLent lower upper work answer after → answer ≡ 0
     -- a forecast of what was read has told how many records these are, and how deep

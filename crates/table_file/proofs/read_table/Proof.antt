@@ -17,8 +17,6 @@ use Rattle.table_records.specs.Records.{seenOf, verdictOf}
 use Rattle.table_file.proofs.FileLaws.{accepted-file}
 use Rattle.table_file.proofs.ReadLaws.{read-refused, read-short, read-table}
 use lib.ListN.{replicate}
-use Rattle.table_file.specs.declared.TableAnswer.the-variants.{Table}
-use Rattle.table_file.specs.Reading.{tableMeans}
 use borrow.Author.Needs.{needs}
 use Rattle.table_file.proofs.read_table.Statement.{statement}
 use Rattle.table_file.proofs.read_table.Tie as tie
@@ -94,14 +92,11 @@ returns-4 c =
     let s = shape-of (c .before .before .before .before .before .before .before .before .before .before .before .before .before .before .before) in
     let n = c .before .before .before .before .before .before .before .before .before .before .before .before .cells .ensures in
     let ks = c .before .before .before .before .before .before .before .before .before .places .ensures in
-    let w = read-table (a .file .now) (a .lower .now) (a .upper .now) _ (file-verdict (c .before .before .before .before .before .before .before .before .before .before .before .before .before .before .before))
-    (and-both (le-leb _ _ (subst (λ (k : ℕ). k ≤ length (a .lower .now)) n (c .before .before .before .before .before .before .before .before .before .before .before .if1 .left))) (le-leb _ _ (subst (λ (k : ℕ). k ≤ length (a .upper .now)) n (c .before .before .before .before .before .before .before .before .before .before .if2 .left)))) in
-    record {
-      answer = ap Table (sym (from-cards s)) ∙ w .answer;
-      means = ap (λ (x : Shape). tableMeans (Table x)) (sym (from-cards s)) ∙ w .means;
-      lower-after = c .before .before .before .before .before .before .write-limits .ensures ∙ ap (λ (l : List ℕ). laid-limits (a .file .now) l 1 0 (a .lower .now)) ks ∙ w .lower-after;
-      upper-after = c .before .before .write-limits2 .ensures ∙ ap (λ (l : List ℕ). laid-limits (a .file .now) l 2 (s .m - 1) (a .upper .now)) ks ∙ w .upper-after;
-    }
+    read-table (a .file .now) (a .lower .now) (a .upper .now) _ (file-verdict (c .before .before .before .before .before .before .before .before .before .before .before .before .before .before .before))
+    (and-both (le-leb _ _ (subst (λ (k : ℕ). k ≤ length (a .lower .now)) n (c .before .before .before .before .before .before .before .before .before .before .before .if1 .left))) (le-leb _ _ (subst (λ (k : ℕ). k ≤ length (a .upper .now)) n (c .before .before .before .before .before .before .before .before .before .before .if2 .left))))
+    s (sym (from-cards s)) _ _
+    (c .before .before .before .before .before .before .write-limits .ensures ∙ ap (λ (l : List ℕ). laid-limits (a .file .now) l 1 1 (a .lower .now)) ks)
+    (c .before .before .write-limits2 .ensures ∙ ap (λ (l : List ℕ). laid-limits (a .file .now) l 2 (s .m - 1) (a .upper .now)) ks)
 
 pub read-table-spec : {M : Type 1} → statement M
 read-table-spec =

@@ -41,8 +41,24 @@ impl OwnedTable {
         self.lower.len()
     }
 
-    /// The table's file; `lists` decides for each cell that allows every grade whether it is listed.
+    /// The table's file; `lists` decides for each cell that has the limits of an unlisted one whether it is listed.
     pub fn file(&self, mut lists: impl FnMut() -> bool) -> Vec<u8> {
+        let unlisted = (1, self.shape[9] - 1);
+        self.listing(|limits| limits != unlisted || lists())
+    }
+
+    /// The file that lists no cell of which nothing is asked, and the table that it holds: there each visit leaves a line.
+    pub fn without_dont_cares(&self) -> (Vec<u8>, OwnedTable) {
+        let dont_care = (0, self.shape[9] - 1);
+        let mut held = self.clone();
+        for (lower, &upper) in held.lower.iter_mut().zip(&self.upper) {
+            *lower += ((*lower, upper) == dont_care) as u8;
+        }
+        (self.listing(|limits| limits != dont_care), held)
+    }
+
+    /// A file with those of the table's cells that are chosen by their limits.
+    fn listing(&self, mut chosen: impl FnMut((u8, u8)) -> bool) -> Vec<u8> {
         let cards = &self.shape[1..=self.shape[0] as usize];
         let grades = self.shape[9];
         let mut file = vec![];
@@ -55,7 +71,7 @@ impl OwnedTable {
         }
         record(&[2, grades]);
         for (cell, (&lower, &upper)) in self.lower.iter().zip(&self.upper).enumerate() {
-            if (lower, upper) != (0, grades - 1) || lists() {
+            if chosen((lower, upper)) {
                 record(&[&[3, lower, upper, 0, 0, 0, 0, 0], values(cards, cell).as_slice()].concat());
             }
         }

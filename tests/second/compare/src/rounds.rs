@@ -50,14 +50,17 @@ fn every_shape(session: &mut Session) -> Outcome<()> {
     Ok(())
 }
 
-/// Its file, its network, foretold and compiled, and its joins, in buffers that are now and then longer than asked.
+/// Its file, with and without its don't-cares, its network, foretold and compiled, and its joins, in buffers that are now
+/// and then longer than asked.
 fn whole_table(session: &mut Session, table: &OwnedTable) -> Outcome<()> {
     let cells = table.cells();
     let mut longer = |asked: usize| asked + session.random.pick(&[0, 0, 0, 1, 17, 1000]);
     let read_rooms = [10, cells, cells].map(&mut longer);
     let rooms = compile_rooms(cells).map(&mut longer);
     let bytes = table.file(|| session.random.once_in(2));
-    session.read(&bytes, read_rooms)?;
+    session.read_back(&bytes, read_rooms, table)?;
+    let (sparse, held) = table.without_dont_cares();
+    session.read_back(&sparse, read_rooms, &held)?;
     let network = session.compile(table, rooms)?.unwrap_or_default();
     let work = network.len() / 16 + session.random.below(3);
     session.check(&network, table, work)?;

@@ -119,6 +119,14 @@ impl<'a> Session<'a> {
         self.settle("read", answer, wanted, REFUSED, &[&file, &shape, &lower, &upper])
     }
 
+    /// Reads a file that holds this table.
+    pub fn read_back(&mut self, bytes: &[u8], rooms: [usize; 3], held: &OwnedTable) -> Outcome<()> {
+        match self.read(bytes, rooms)? {
+            Some(read) if read == *held => Ok(()),
+            read => Err(format!("case {}: read {read:?} from a file of {held:?}", self.cases)),
+        }
+    }
+
     /// Makes a join, for the second block where a first is given, into buffers of these lengths.
     pub fn join(
         &mut self,

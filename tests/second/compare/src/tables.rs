@@ -60,10 +60,12 @@ fn composed(cards: &[u8], grades: u8, random: &mut Random) -> impl Fn(&[u8]) -> 
 pub fn some_table(cards: &[u8], grades: u8, random: &mut Random) -> OwnedTable {
     let width = 1 + random.below(4);
     let sparse = 2 + random.below(8);
+    // A cell of which nothing is said: any grade, or any but 0, as where a file does not list it.
+    let free = (random.below(2) as u8, grades - 1);
     match random.below(6) {
         0 => OwnedTable::by_rule(cards, grades, |_| around(random.byte() % grades, grades, random, width)),
         1 => OwnedTable::by_rule(cards, grades, |_| {
-            if random.once_in(sparse) { around(random.byte() % grades, grades, random, 1) } else { (0, grades - 1) }
+            if random.once_in(sparse) { around(random.byte() % grades, grades, random, 1) } else { free }
         }),
         2 => OwnedTable::by_rule(cards, grades, |values| {
             let sum: usize = values.iter().map(|&value| value as usize).sum();
@@ -78,7 +80,7 @@ pub fn some_table(cards: &[u8], grades: u8, random: &mut Random) -> OwnedTable {
                     _ => one(values).max(two(values)),
                 };
                 let any = random.once_in(3 * sparse);
-                if any { (0, grades - 1) } else { around(grade, grades, random, width) }
+                if any { free } else { around(grade, grades, random, width) }
             })
         }
     }

@@ -9,7 +9,7 @@ type Limits = (u8, u8);
 
 /// What a document says, as far as document 01 says the same.
 enum Fact {
-    /// Reading the table's file gives these limits.
+    /// Reading the table's file, every cell listed, gives these limits.
     Read(OwnedTable),
     /// The first block of a join has these limits.
     First(Join, OwnedTable),
@@ -171,7 +171,7 @@ fn holds(session: &mut Session, table: &OwnedTable, network: &[u8], fact: &Fact)
     };
     match fact {
         Fact::Read(wanted) => {
-            let bytes = table.file(|| false);
+            let bytes = table.file(|| true);
             let read = session.read(&bytes, [10, rooms[0], rooms[1]])?;
             Ok(read.is_some_and(|read| read.lower == wanted.lower && read.upper == wanted.upper))
         }
@@ -182,18 +182,41 @@ fn holds(session: &mut Session, table: &OwnedTable, network: &[u8], fact: &Fact)
     }
 }
 
-/// Forecasts and compiles every vector, prints a table of them, and fails where a document's fact does not hold.
+/// Forecasts, compiles and checks a table; its network.
+fn compile(session: &mut Session, table: &OwnedTable) -> Outcome<Vec<u8>> {
+    let network = session.compile(table, compile_rooms(table.cells()))?.unwrap_or_default();
+    session.check(&network, table, network.len() / 16)?;
+    Ok(network)
+}
+
+/// Reads a table's files: with every cell, which gives the table back, and without its don't-cares. Of these: how many
+/// there are, and the records of the network if they are not listed.
+fn unlisted(session: &mut Session, table: &OwnedTable) -> Outcome<String> {
+    let rooms = [10, table.cells(), table.cells()];
+    session.read_back(&table.file(|| true), rooms, table)?;
+    let (sparse, held) = table.without_dont_cares();
+    session.read_back(&sparse, rooms, &held)?;
+    match table.lower.iter().zip(&held.lower).filter(|(printed, held)| printed != held).count() {
+        0 => Ok("0".into()),
+        dont_cares => Ok(format!("{dont_cares}; {}", compile(session, &held)?.len() / 16)),
+    }
+}
+
+/// Compiles every vector, as it is printed and, where it has don't-cares, as a file without them has it; prints a table of
+/// them, and fails where a document's fact does not hold.
 pub fn run(session: &mut Session) -> Outcome<()> {
-    println!("| table | cells | records | gates | literals | printed: gates, literals |");
-    println!("|---|---|---|---|---|---|");
+    println!(
+        "| table | cells | records | gates | literals | printed: gates, literals | don't-cares; records if not listed |"
+    );
+    println!("|---|---|---|---|---|---|---|");
     for Vector { name, printed, table, facts } in
         [figures_of_000(), figures_of_001(), public_tables()].into_iter().flatten()
     {
         let cells = table.cells();
-        let network = session.compile(&table, compile_rooms(cells))?.unwrap_or_default();
-        session.check(&network, &table, network.len() / 16)?;
+        let network = compile(session, &table)?;
+        let unlisted = unlisted(session, &table).map_err(|fault| format!("{name}: {fault}"))?;
         let (records, gates, literals) = (network.len() / 16, count(&network, &[2, 3]), count(&network, &[1]));
-        println!("| {name} | {cells} | {records} | {gates} | {literals} | {printed} |");
+        println!("| {name} | {cells} | {records} | {gates} | {literals} | {printed} | {unlisted} |");
         for (number, fact) in facts.iter().enumerate() {
             if !holds(session, &table, &network, fact)? {
                 return Err(format!("{name}: fact {number} does not hold"));

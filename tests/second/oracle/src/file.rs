@@ -34,12 +34,14 @@ pub fn read(file: &[u8], shape_room: usize, lower_room: usize, upper_room: usize
     stop_if(!reader.graded, refusal::RECORD_ORDER)?;
     let count = reader.shape.count();
     stop_if(shape_room < 10 || lower_room < count || upper_room < count, refusal::SHORT_BUFFER)?;
-    let mut lower = vec![0; count];
-    let mut upper = vec![reader.shape.grades - 1; count];
-    for (cell, limits) in &reader.listed {
-        lower[reader.shape.number(*cell)] = limits.lower;
-        upper[reader.shape.number(*cell)] = limits.upper;
-    }
+    // Cells are listed in the order of their numbers. One that is not is of a kind that nobody foresaw: a plain line, or more.
+    let unlisted = Limits { lower: 1, upper: reader.shape.grades - 1 };
+    let mut listed = reader.listed.iter().peekable();
+    let limits = |number: usize| {
+        let here = listed.next_if(|(cell, _)| reader.shape.number(*cell) == number);
+        here.map_or(unlisted, |&(_, limits)| limits)
+    };
+    let (lower, upper) = (0..count).map(limits).map(|at| (at.lower, at.upper)).unzip();
     Ok(Read { shape: reader.shape.to_bytes(), lower, upper })
 }
 

@@ -62,7 +62,7 @@ pub fn read(file: &[u8], shape: &mut [u8], limits: Limits) -> Answer<u32> {
     refuse_if(head[9] == 0, 3)?;
     refuse_if(shape.len() < head.len() || limits.lower.len() < cells || limits.upper.len() < cells, 10)?;
     shape[..head.len()].copy_from_slice(&head);
-    limits.lower[..cells].fill(0);
+    limits.lower[..cells].fill(1);
     limits.upper[..cells].fill(head[9] - 1);
     for record in file.chunks_exact(RECORD).skip(conditions + 1) {
         let number = cell_number(record, &head[1..=conditions]).ok_or(6u32)?;
