@@ -75,7 +75,6 @@ module _ (file ks : List ℕ) (c : ℕ) where
 
   pub record ByRecord (k n : ℕ) : Type 0 where
     pub last : ℕ
-    pub from : k ≤ last
     pub to : last < k + n
     pub names : Names last
     pub byte : (j : ℕ) (t : List ℕ) → c < length t → at (listedOver file ks j k n t) c ≡ at (recordAt file last) j
@@ -93,7 +92,6 @@ module _ (file ks : List ℕ) (c : ℕ) where
     later b =
         record {
           last = b .last;
-          from = omega (arith, b .from);
           to = omega (arith, b .to);
           names = b .names;
           byte = λ j t h. b .byte j (laidOver r ks j t) (omega (arith, length-laid r ks j t));
@@ -103,7 +101,6 @@ module _ (file ks : List ℕ) (c : ℕ) where
     first u e =
         record {
           last = k;
-          from = omega arith;
           to = omega arith;
           names = e;
           byte = λ j t h.
