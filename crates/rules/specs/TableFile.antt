@@ -87,7 +87,8 @@ abbrev pub listedOver : List ℕ → List ℕ → ℕ → ℕ → ℕ → List �
 listedOver file ks j k zero t = t
 listedOver file ks j k (suc n) t = listedOver file ks j (suc k) n (laidOver (recordAt file k) ks j t)
 
--- the limits of a cell that is not listed. A visit of a kind that nobody foresaw leaves at least a plain line: any grade but 0
+-- the limits of a cell that is not listed; by request 2, which takes the place of 01's 0, any grade but 0: a visit that nobody foresaw
+-- leaves at least a plain line
 abbrev pub unlistedLower : Seen → ℕ
 unlistedLower s = 1
 
