@@ -1,16 +1,13 @@
 -- The promise of `grades_read`, from what the parts of the call answer.
 use Prim.Native.Nat.{ℕ, _+_, _≤_, _<_}
 use mathlib.Core.Path.{_≡_, refl, sym, ap, _∙_}
-use mathlib.Core.Bool.{Bool, true, false, _&&_}
+use mathlib.Core.Bool.{Bool, true, false}
 use mathlib.Core.List.{List, _++_}
 use borrow.Author.Tests.{le-leb, lt-leb}
-use lib.Dec.{leb}
 use lib.ListN.{length, take, drop}
 use Rattle.rules.specs.declared.Refusal.{Refusal}
 use Rattle.rules.specs.declared.Refusal.the-variants.{ShortBuffer}
 use Rattle.rules.specs.Refusal.{refusalNumber}
-use Rattle.rules.specs.Cell.{cells}
-use Rattle.rules.specs.Shape.{places}
 use Rattle.rules.specs.Limits.{limitsOf}
 use Rattle.rules.specs.Verdict.{Verdict, accepted, refused, unless, andThen}
 use Rattle.rules.specs.TableFile.{Seen, judgeFile, judgeReading, AsListed}
@@ -21,7 +18,7 @@ use Rattle.table_file.specs.declared.TableAnswer.{TableAnswer}
 use Rattle.table_file.specs.declared.TableAnswer.the-variants.{Table, Refused}
 use Rattle.tables.specs.Part.{part}
 use Rattle.table_file.specs.Reading.{lowerAfter, upperAfter, Read}
-use Rattle.table_file.proofs.ReadLaws.{was-table, was-refused}
+use Rattle.table_file.proofs.ReadLaws.{was-table, was-refused, fits}
 use Rattle.panel_answers.specs.Answers.{callNumber}
 use Rattle.panel_reads.specs.Reads.{readVerdict, noRoom, shapeAfter, Reads}
 
@@ -80,7 +77,7 @@ module _ (file shape lower upper : List ℕ) where
       let q = stopped (judgeFile file) in
       by-verdict (refused (q .0)) r shape lower upper
       (ap (λ (b : Bool). andThen judged (λ s. unless b ShortBuffer (accepted s))) (lt-leb 10 (length shape) short)
-      ∙ stops-all (judgeFile file) (λ s. leb (cells (places (s .cards))) (length lower) && leb (cells (places (s .cards))) (length upper))
+      ∙ stops-all (judgeFile file) (fits file lower upper)
       ∙ q .1)
       (number ∙ ap (λ (v : Verdict Seen). callNumber v (λ s. 0)) (q .1)) refl refl refl (λ s e. refused-accepted e)
 

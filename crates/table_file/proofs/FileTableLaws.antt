@@ -14,7 +14,7 @@ use Rattle.rules.specs.Bytes.{at, all}
 use Rattle.rules.specs.Cell.{cells}
 use Rattle.rules.specs.Limits.{limitsSound, limitsOf}
 use Rattle.rules.specs.Shape.{maxConditions, maxCardinality, maxGrades, placeSound, places, shapeSound}
-use Rattle.rules.specs.TableFile.{Seen, fileLimits}
+use Rattle.rules.specs.TableFile.{Seen, unlistedLower, unlistedUpper, fileLimits}
 use Rattle.rules.specs.Verdict.{accepted}
 use Rattle.rules.specs.Demands.{compiledRecords, Table}
 use Rattle.rules.specs.CompileCall.{mostRecords, compileRoom, lentLimits, compileCall}
@@ -27,7 +27,7 @@ use Rattle.shape.specs.Shapes.{cardsOf, placesOf, shapeFrom}
 use Rattle.shape.proofs.ShapeLaws.{cards-from}
 use Rattle.table_file.proofs.ListedLaws.{laid-at}
 use Rattle.table_file.proofs.FileLaws.{Accepted}
-use Rattle.table_file.proofs.AsListedLaws.{limits-long, by-record, untouched}
+use Rattle.table_file.proofs.AsListedLaws.{limit-long, by-record, untouched}
 
 module _ (file : List ℕ) (s : Seen) (a : Accepted file s) where
   some : (2 ≤ s .m) × (s .m ≤ 16)
@@ -55,12 +55,17 @@ module _ (file : List ℕ) (s : Seen) (a : Accepted file s) where
       ⊎-elim
       (λ b.
       let l = a .limits (b .last) (omega (arith, b .to)) (b .names .0) in
-      let e = by-record file s a c h b in
-      (omega (arith, l .0, e .0, e .1), omega (arith, l .1, e .1)))
+      let low = by-record file ks 1 (unlistedLower s) c h b in
+      let high = by-record file ks 2 (unlistedUpper s) c h b in
+      (omega (arith, l .0, low, high), omega (arith, l .1, high)))
       (λ u.
-      let e = untouched file s a c h u in
-      (omega (arith, some .0, e .0, e .1), omega (arith, some .0, e .1)))
+      let low = untouched file ks 1 (unlistedLower s) c h u in
+      let high = untouched file ks 2 (unlistedUpper s) c h u in
+      (omega (arith, some .0, low, high), omega (arith, some .0, high)))
       (laid-at file ks c 0 (length file / 16))
+
+  limits-long : (length (fileLimits file s .lower) ≡ cells ks) × (length (fileLimits file s .upper) ≡ cells ks)
+  limits-long = (limit-long file ks 1 (unlistedLower s), limit-long file ks 2 (unlistedUpper s))
 
   pub limits-sound : T (limitsSound ks (s .m) (fileLimits file s))
   limits-sound = all-of (cells ks) (λ c. low c && high c) (λ c h. and-i (low c) (high c) (le→leb _ _ (in-order c h .0)) (lt→ltb _ _ (in-order c h .1)))
@@ -78,7 +83,7 @@ module _ (file : List ℕ) (s : Seen) (a : Accepted file s) where
   module _ (lower upper lower′ upper′ : List ℕ) (low : lower′ ≡ fileLimits file s .lower ++ drop (cells ks) lower) (high : upper′ ≡ fileLimits file s .upper ++ drop (cells ks) upper) where
     pub limits-lent : lentLimits ks lower′ upper′ ≡ fileLimits file s
     limits-lent =
-        let long = limits-long file s a in
+        let long = limits-long in
         ap₂ limitsOf (ap (take (cells ks)) low ∙ take-at _ _ (cells ks) (long .0)) (ap (take (cells ks)) high ∙ take-at _ _ (cells ks) (long .1))
 
     long-enough : (l b : List ℕ) {t : List ℕ} → t ≡ l ++ b → length l ≡ cells ks → leb (cells ks) (length t) ≡ true
@@ -87,7 +92,7 @@ module _ (file : List ℕ) (s : Seen) (a : Accepted file s) where
     module _ (work network : ℕ) (work-room : 16 * cells ks ≤ work) (network-room : 16 * mostRecords (cells ks) ≤ network) where
       room : compileRoom (cells ks) (length lower′) (length upper′) work network ≡ true
       room =
-          let long = limits-long file s a in
+          let long = limits-long in
           and-both (and-both (and-both (long-enough (fileLimits file s .lower) (drop (cells ks) lower) low (long .0)) (and-both (long-enough (fileLimits file s .upper) (drop (cells ks) upper) high (long .1)) refl)) (le-leb _ _ work-room)) (le-leb _ _ network-room)
 
       pub file-compiles : compileCall (s .n) (s .cards) (s .m) (length lower′) (length upper′) work network (lentLimits ks lower′ upper′)

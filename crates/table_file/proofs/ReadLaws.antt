@@ -39,42 +39,43 @@ table-means (accepted s) = refl
 table-means (refused q) = refl
 
 module _ (file lower upper : List ℕ) where
+  -- both buffers have room for a table
+  abbrev pub fits : Seen → Bool
+  fits s = leb (cells (places (s .cards))) (length lower) && leb (cells (places (s .cards))) (length upper)
+
+  -- an accepted call: its file is accepted, and what is written is as that lists
+  pub file-judged : {s : Seen} → judgeReading file (length lower) (length upper) ≡ accepted s → judgeFile file ≡ accepted s
+  file-judged e = last-passed (judgeFile file) fits ShortBuffer e
+
   written : (s : Seen) → judgeReading file (length lower) (length upper) ≡ accepted s → AsListed file s (limitsOf (lowerAfter file (accepted s) lower) (upperAfter file (accepted s) upper))
-  written s e =
-      as-listed file s
-      (accepted-file file s (last-passed (judgeFile file) (λ t. leb (cells (places (t .cards))) (length lower) && leb (cells (places (t .cards))) (length upper)) ShortBuffer e))
-      (drop (cells (places (s .cards))) lower) (drop (cells (places (s .cards))) upper)
+  written s e = as-listed file s (accepted-file file s (file-judged e)) (drop (cells (places (s .cards))) lower) (drop (cells (places (s .cards))) upper)
 
   by-verdict : (v : Verdict Seen) → judgeReading file (length lower) (length upper) ≡ v → Read file lower upper (readAnswer v) (lowerAfter file v lower) (upperAfter file v upper)
   by-verdict v e =
       record {
-        as-listed = λ s q. subst (λ (w : Verdict Seen). AsListed file s (limitsOf (lowerAfter file w lower) (upperAfter file w upper))) (sym q ∙ e) (written s q);
         answer = ap readAnswer (sym e);
         means = table-means v ∙ ap (answerOf (λ (s : Seen). shapeBytes (shapeFrom (s .n) (s .cards) (s .m)))) (sym e);
         lower-after = ap (λ (w : Verdict Seen). lowerAfter file w lower) (sym e);
         upper-after = ap (λ (w : Verdict Seen). upperAfter file w upper) (sym e);
+        as-listed = λ s q. subst (λ (w : Verdict Seen). AsListed file s (limitsOf (lowerAfter file w lower) (upperAfter file w upper))) (sym q ∙ e) (written s q);
       }
 
   -- the file is refused
   pub read-refused : (q : Refusal) → judgeFile file ≡ refused q → Read file lower upper (Refused q) lower upper
-  read-refused q e =
-      by-verdict (refused q)
-      (ap (λ (v : Verdict Seen). andThen v (λ s. unless (leb (cells (places (s .cards))) (length lower) && leb (cells (places (s .cards))) (length upper)) ShortBuffer (accepted s))) e)
+  read-refused q e = by-verdict (refused q) (ap (λ (v : Verdict Seen). andThen v (λ s. unless (fits s) ShortBuffer (accepted s))) e)
 
   module _ (s : Seen) (e : judgeFile file ≡ accepted s) where
-    with-room : (b : Bool) → (leb (cells (places (s .cards))) (length lower) && leb (cells (places (s .cards))) (length upper)) ≡ b
-        → judgeReading file (length lower) (length upper) ≡ unless b ShortBuffer (accepted s)
+    with-room : (b : Bool) → fits s ≡ b → judgeReading file (length lower) (length upper) ≡ unless b ShortBuffer (accepted s)
     with-room b r =
-        ap (λ (v : Verdict Seen). andThen v (λ s. unless (leb (cells (places (s .cards))) (length lower) && leb (cells (places (s .cards))) (length upper)) ShortBuffer (accepted s))) e
+        ap (λ (v : Verdict Seen). andThen v (λ s. unless (fits s) ShortBuffer (accepted s))) e
         ∙ ap (λ (b : Bool). unless b ShortBuffer (accepted s)) r
 
     -- a buffer is too short
-    pub read-short : (leb (cells (places (s .cards))) (length lower) && leb (cells (places (s .cards))) (length upper)) ≡ false → Read file lower upper (Refused ShortBuffer) lower upper
+    pub read-short : fits s ≡ false → Read file lower upper (Refused ShortBuffer) lower upper
     read-short r = by-verdict (refused ShortBuffer) (with-room false r)
 
     -- the table is written
-    pub read-table : (leb (cells (places (s .cards))) (length lower) && leb (cells (places (s .cards))) (length upper)) ≡ true
-        → (x : Shape) → x ≡ shapeFrom (s .n) (s .cards) (s .m) → (lower′ upper′ : List ℕ) → lower′ ≡ lowerAfter file (accepted s) lower → upper′ ≡ upperAfter file (accepted s) upper
+    pub read-table : fits s ≡ true → (x : Shape) → x ≡ shapeFrom (s .n) (s .cards) (s .m) → (lower′ upper′ : List ℕ) → lower′ ≡ lowerAfter file (accepted s) lower → upper′ ≡ upperAfter file (accepted s) upper
         → Read file lower upper (Table x) lower′ upper′
     read-table r x shape lower′ upper′ low high =
         subst (λ (y : Shape). Read file lower upper (Table y) lower′ upper′) (sym shape)

@@ -28,6 +28,7 @@ use Rattle.shape.specs.Shapes.{placesOf, isSound, shapeFrom, shapeBytes}
 use Rattle.shape.proofs.ShapeLaws.{cards-from}
 use Rattle.table_file.specs.Reading.{lowerAfter, upperAfter}
 use Rattle.table_file.proofs.FileLaws.{Accepted, accepted-file}
+use Rattle.table_file.proofs.ReadLaws.{file-judged}
 use Rattle.table_file.proofs.FileTableLaws.{file-table, limits-lent, table-compiles}
 use Rattle.network.specs.Checking.{checkRows}
 use Rattle.compile.specs.Compiling.{compileRows}
@@ -116,8 +117,7 @@ module _ (file shape lower upper shape′ lower′ upper′ : List ℕ) (got : R
   judged : judgeFile file ≡ accepted s
   unfolding verdict s
   judged =
-      last-passed (judgeFile file) (λ t. leb (cells (places (t .cards))) (length lower) && leb (cells (places (t .cards))) (length upper)) ShortBuffer
-      (last-passed (judgeReading file (length lower) (length upper)) (λ t. leb 10 (length shape)) ShortBuffer (read .1))
+      file-judged file lower upper (last-passed (judgeReading file (length lower) (length upper)) (λ t. leb 10 (length shape)) ShortBuffer (read .1))
 
   whole : Accepted file s
   whole = accepted-file file s judged

@@ -1,22 +1,22 @@
 -- `table_file::read_table` meets its contract.
 use mathlib.Core.Path.{_≡_, sym, ap, subst, _∙_}
 use mathlib.Core.List.{List, _++_}
-use Prim.Native.Nat.{ℕ, _-_, _/_, _≤_, _<_}
+use Prim.Native.Nat.{ℕ, _-_, _≤_, _<_}
 use native.Mathlib.Omega.{arith}
 use lib.ListN.{length, drop}
 use lib.Dec.{leb}
 use borrow.Author.Tests.{lt-leb, le-leb}
 use Rattle.rules.specs.Cell.{cells}
 use Rattle.rules.specs.Verdict.{accepted}
-use Rattle.rules.specs.TableFile.{judgeFile, listedOver}
+use Rattle.rules.specs.TableFile.{judgeFile}
 use Rattle.laws.proofs.TestLaws.{by-order, and-both, and-left, and-right}
 use Rattle.shape.specs.declared.Shape.{Shape}
 use Rattle.shape.specs.Shapes.{placesOf}
 use Rattle.shape.proofs.ShapeLaws.{shape-positive, from-cards}
 use Rattle.table_records.specs.Records.{seenOf, verdictOf}
 use Rattle.table_file.proofs.FileLaws.{accepted-file}
+use Rattle.table_file.proofs.AsListedLaws.{limit}
 use Rattle.table_file.proofs.ReadLaws.{read-refused, read-short, read-table}
-use lib.ListN.{replicate}
 use borrow.Author.Needs.{needs}
 use Rattle.table_file.proofs.read_table.Statement.{statement}
 use Rattle.table_file.proofs.read_table.Tie as tie
@@ -35,7 +35,7 @@ cells-requires c κs = search needs
 
 -- a limit buffer written over the places ks
 abbrev laid-limits : List ℕ → List ℕ → ℕ → ℕ → List ℕ → List ℕ
-laid-limits file ks j x to = listedOver file ks j 0 (length file / 16) (replicate (cells ks) x) ++ drop (cells ks) to
+laid-limits file ks j x to = limit file ks j x ++ drop (cells ks) to
 
 -- the shape that the file gives, and the verdict that gives it
 abbrev shape-of : tie.After-seen → Shape

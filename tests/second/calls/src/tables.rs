@@ -47,12 +47,14 @@ impl OwnedTable {
         self.listing(|limits| limits != unlisted || lists())
     }
 
-    /// The file that lists no cell of which nothing is asked, and the table that it holds: there each visit leaves a line.
+    /// The file without the table's don't-cares, and the table that this file holds: at each of them 1 in place of 0.
     pub fn without_dont_cares(&self) -> (Vec<u8>, OwnedTable) {
         let dont_care = (0, self.shape[9] - 1);
         let mut held = self.clone();
         for (lower, &upper) in held.lower.iter_mut().zip(&self.upper) {
-            *lower += ((*lower, upper) == dont_care) as u8;
+            if (*lower, upper) == dont_care {
+                *lower = 1;
+            }
         }
         (self.listing(|limits| limits != dont_care), held)
     }

@@ -3,9 +3,7 @@ use mathlib.Core.Path.{_≡_, ap, _∙_}
 use mathlib.Core.List.{_++_}
 use Prim.Native.Nat.{ℕ, _-_, _≤_}
 use native.Mathlib.Omega.{arith}
-use lib.ListN.{length, drop, length-drop}
-use lib.ListN.{replicate}
-use lib.ListN.{length-append, length-replicate}
+use lib.ListN.{length, replicate, drop, length-append, length-replicate, length-drop}
 use borrow.Author.Fill.{fill-more}
 use borrow.Author.Needs.{needs}
 use Rattle.table_file.proofs.writing.fill.Statement.{statement}

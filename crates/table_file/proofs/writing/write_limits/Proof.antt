@@ -3,8 +3,7 @@ use mathlib.Core.Path.{ap, _∙_}
 use mathlib.Core.List.{List, _++_}
 use Prim.Native.Nat.{ℕ, _/_}
 use native.Mathlib.Omega.{arith}
-use lib.ListN.{length, drop}
-use lib.ListN.{replicate, length-replicate}
+use lib.ListN.{length, replicate, drop, length-replicate}
 use Rattle.rules.specs.Cell.{cells}
 use Rattle.rules.specs.TableFile.{listedOver}
 use Rattle.table_file.proofs.ListedLaws.{listed-front}
