@@ -15,17 +15,20 @@
  * value for every condition. A table gives a lower and an upper grade for each
  * cell, a network one grade.
  *
- * In every call each buffer is a pointer and the number of bytes behind it:
+ * In every call each buffer is a pointer and the number of bytes behind it;
+ * the cells of grades_evaluate_each are a pointer, aligned as C has uint16_t,
+ * and the number of elements behind it:
  *   - the pointer is not NULL, even where the number is 0;
  *   - all the bytes may be read, and those of a buffer that is not const
  *     written;
  *   - a buffer that is not const shares no byte with another buffer;
  *   - nothing else writes to the buffers before the call returns.
- * Any contents are safe: a fault in them is answered by a refusal, and a call
- * that is refused changes no byte of any buffer. Buffers of limits, blocks and
- * work, and all that a call writes, may be longer than asked for: the bytes
- * past those that it writes stay as they are. A call keeps nothing when it
- * returns, so threads may call at once, each with buffers of its own to write.
+ * Any contents are safe: a fault in them is answered by a refusal, a number in
+ * a list that no cell has by GRADES_NO_CELL at its place. A call that is
+ * refused changes no byte of any buffer. Buffers of limits, blocks and work,
+ * and all that a call writes, may be longer than asked for: the bytes past
+ * those that it writes stay as they are. A call keeps nothing when it returns,
+ * so threads may call at once, each with buffers of its own to write.
  */
 #ifndef GRADES_H
 #define GRADES_H
@@ -100,7 +103,8 @@ extern "C" {
  *   GRADES_COMPILE_WORK_BYTES     work of grades_compile and grades_forecast
  *   GRADES_COMPILE_NETWORK_BYTES  network of grades_compile
  *   GRADES_DEPTH_BYTES            depth of grades_forecast
- *   GRADES_RUN_WORK_BYTES         work of grades_check and grades_evaluate
+ *   GRADES_RUN_WORK_BYTES         work of grades_check, grades_evaluate and
+ *                                 grades_evaluate_each
  */
 #define GRADES_COMPILE_WORK_BYTES(cells) (16u * (cells))
 #define GRADES_COMPILE_NETWORK_BYTES(cells) \
@@ -112,20 +116,24 @@ extern "C" {
  * Stack: a call takes fewer bytes than these, with its arguments and its
  * return address. What memset and memcpy take, and the loader when it binds
  * them, comes on top.
+ *   GRADES_READ_STACK_BYTES     grades_read
  *   GRADES_RUN_STACK_BYTES      grades_check and grades_evaluate
+ *   GRADES_EACH_STACK_BYTES     grades_evaluate_each
  *   GRADES_COMPILE_STACK_BYTES  grades_compile and grades_forecast
  *   GRADES_JOIN_STACK_BYTES     each of the four joins
  */
 #define GRADES_READ_STACK_BYTES 1024
 #define GRADES_RUN_STACK_BYTES 5120
+#define GRADES_EACH_STACK_BYTES 6144
 #define GRADES_COMPILE_STACK_BYTES 6144
 #define GRADES_JOIN_STACK_BYTES 9216
 
 /*
  * Refusals are in two families, each a number of its own plus the refusal's,
  * 1 to 12. An answer that is not below the family's number is a refusal.
- *   GRADES_REFUSED           every call but grades_evaluate: above every count
- *                            of records and every answer of grades_check
+ *   GRADES_REFUSED           every call but grades_evaluate, so also
+ *                            grades_evaluate_each: above every count of
+ *                            records and every answer of grades_check
  *   GRADES_EVALUATE_REFUSED  grades_evaluate: above every grade
  * No answer of grades_evaluate reaches GRADES_REFUSED, so to compare the two
  * would take a refusal for a grade.
@@ -305,6 +313,30 @@ uint32_t grades_evaluate(const uint8_t *network, size_t network_bytes,
                          const uint8_t *shape, size_t shape_bytes,
                          uint8_t *work, size_t work_bytes,
                          uint32_t cell);
+
+/*
+ * The grades of a network at each cell of a list, as for a day of visits.
+ *
+ * cells: count numbers, in any order. The network runs once for each cell,
+ * however often its number is there.
+ * grades: a byte for each number, at its place in the list: the grade that
+ * grades_evaluate answers, or GRADES_NO_CELL where the number is not below the
+ * number of cells.
+ * work: GRADES_RUN_WORK_BYTES(network_bytes), a byte for each record; any
+ * contents. They hold anything after a call that was not refused, but stay as
+ * they are where count is 0.
+ *
+ * Answers 0. Refusals, also where count is 0: SHAPE; BUFFER, for work_bytes
+ * less than network_bytes / 16, rounded down, or for grades_bytes less than
+ * count; NETWORK.
+ */
+#define GRADES_NO_CELL 255u
+
+uint32_t grades_evaluate_each(const uint8_t *network, size_t network_bytes,
+                              const uint8_t *shape, size_t shape_bytes,
+                              const uint16_t *cells, size_t count,
+                              uint8_t *grades, size_t grades_bytes,
+                              uint8_t *work, size_t work_bytes);
 
 #ifdef __cplusplus
 }

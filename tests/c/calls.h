@@ -1,5 +1,5 @@
 /*
- * The nine calls, each over a list of its buffers in the order of its
+ * The ten calls, each over a list of its buffers in the order of its
  * parameters, so that a test can go through calls and buffers alike.
  */
 #ifndef CALLS_H
@@ -66,6 +66,15 @@ static uint32_t check_lent(const struct lent *lent)
 static uint32_t evaluate_lent(const struct lent *lent)
 {
     return grades_evaluate(LENT(0), LENT(1), LENT(2), cell_number);
+}
+
+/* The cells as the bytes of their numbers, at an even address. */
+static uint32_t evaluate_each_lent(const struct lent *lent)
+{
+    const void *numbers = lent[2].at;
+
+    return grades_evaluate_each(LENT(0), LENT(1), numbers, lent[2].bytes / sizeof(uint16_t),
+                                LENT(3), LENT(4));
 }
 
 #endif

@@ -1,7 +1,8 @@
 /*
  * Lends every call each of its buffers empty, the others being as the call
  * asks: a pointer that is not NULL, and 0 bytes. Each call is held to its
- * answer, and to every byte of all buffers and around them.
+ * answer, and to every byte of all buffers and around them: an empty list of
+ * cells is accepted and anything else refused, and no byte changes.
  */
 #define _DEFAULT_SOURCE
 #include "calls.h"
@@ -23,8 +24,8 @@ static struct {
 } buffers[MOST_BUFFERS];
 static size_t count;
 
-/* Their memory, each between two guards, and how they are lent. */
-static uint8_t memory[MOST_BUFFERS][GUARD + MOST_BYTES + GUARD];
+/* Their memory, each between two guards and at an even address, and how they are lent. */
+static uint8_t memory[MOST_BUFFERS][GUARD + MOST_BYTES + GUARD] __attribute__((aligned(2)));
 static struct lent lent[MOST_BUFFERS];
 
 /* A page that may be neither read nor written. */
@@ -147,6 +148,18 @@ static void evaluating(void)
     expect_each("evaluate", evaluate_lent, 1);
 }
 
+static void evaluating_each(void)
+{
+    static const uint16_t numbers[] = {3, CELLS, 1};
+
+    lend("network", parity, parity_bytes, GRADES_REFUSED_NETWORK);
+    lend("shape", square, sizeof square, GRADES_REFUSED_SHAPE);
+    lend("cells", numbers, sizeof numbers, 0);
+    lend("grades", NULL, sizeof numbers / sizeof numbers[0], GRADES_REFUSED_BUFFER);
+    lend("work", NULL, GRADES_RUN_WORK_BYTES(parity_bytes), GRADES_REFUSED_BUFFER);
+    expect_each("evaluate_each", evaluate_each_lent, 0);
+}
+
 int main(void)
 {
     void *page = mmap(NULL, 1, PROT_NONE, MAP_PRIVATE | MAP_ANONYMOUS, -1, 0);
@@ -165,5 +178,6 @@ int main(void)
     compiling("forecast", forecast_lent, "depth", GRADES_DEPTH_BYTES);
     checking();
     evaluating();
+    evaluating_each();
     return checked("empty");
 }

@@ -1,6 +1,8 @@
 /*
  * Calls grades_evaluate on a sound network at all its cells, and once or more
- * for each refusal. Each call is held to its answer, and to what it may change.
+ * for each refusal; each time grades_evaluate_each too, with that cell alone in
+ * a list and with an empty list; and then the latter with longer lists. Each
+ * call is held to its answer, and to what it may change.
  */
 #include "check.h"
 
@@ -12,6 +14,10 @@ static uint8_t network[(GRADES_MAX_RECORDS + 1) * RECORD];
 /* The work buffer, between two guards. */
 static uint8_t around[GUARD + GRADES_MAX_RECORDS + 1 + GUARD];
 
+/* The grades of a list, between two guards: at most two for each number there is. */
+#define NUMBERS 65536
+static uint8_t around_grades[GUARD + 2 * NUMBERS + GUARD];
+
 /* By kind, the bytes that must be zero. */
 static const char must_be_zero[4][RECORD + 1] = {
     "..00000000000000",
@@ -20,21 +26,90 @@ static const char must_be_zero[4][RECORD + 1] = {
     ".000....00000000",
 };
 
-static void expect(const char *name, size_t network_bytes, const uint8_t *shape, size_t shape_bytes,
-                   size_t work_bytes, uint32_t cell, uint32_t wanted)
+static void check_work(const char *name, size_t work_bytes, size_t written)
 {
-    size_t written = wanted < GRADES_EVALUATE_REFUSED ? GRADES_RUN_WORK_BYTES(network_bytes) : 0;
-    uint8_t *work = around + GUARD;
-    uint32_t answer;
+    const uint8_t *work = around + GUARD;
 
-    memset(around, FILL, sizeof around);
-    answer = grades_evaluate(network, network_bytes, shape, shape_bytes, work, work_bytes, cell);
-    check_answer(name, answer, wanted);
     check(all_filled(around, work), name, "bytes before the work buffer changed");
     check(all_filled(work + work_bytes, around + sizeof around), name,
           "bytes after the work buffer changed");
     check(all_filled(work + written, work + work_bytes), name,
           "bytes of the work buffer changed that must stay");
+}
+
+/* What grades_evaluate_each is lent, with the network. */
+struct list {
+    size_t network_bytes;
+    const uint8_t *shape;
+    size_t shape_bytes;
+    const uint16_t *cells;
+    size_t count, grades_bytes, work_bytes;
+};
+
+/* A list that gets these grades, or that is refused. */
+static void expect_list(const char *name, const struct list *list, uint32_t wanted,
+                        const uint8_t *wanted_grades)
+{
+    const size_t count = wanted == 0 ? list->count : 0;
+    uint8_t *grades = around_grades + GUARD;
+    uint32_t answer;
+
+    memset(around, FILL, sizeof around);
+    memset(around_grades, FILL, sizeof around_grades);
+    answer = grades_evaluate_each(network, list->network_bytes, list->shape, list->shape_bytes,
+                                  list->cells, list->count, grades, list->grades_bytes,
+                                  around + GUARD, list->work_bytes);
+    check_answer(name, answer, wanted);
+    check_work(name, list->work_bytes, count > 0 ? GRADES_RUN_WORK_BYTES(list->network_bytes) : 0);
+    check(all_filled(around_grades, grades), name, "bytes before the grades changed");
+    check(memcmp(grades, wanted_grades, count) == 0, name, "other grades than wanted");
+    check(all_filled(grades + count, around_grades + sizeof around_grades), name,
+          "bytes past the grades changed");
+}
+
+/* Where grades_evaluate gives an answer for a cell: what a list with it is answered, and the byte
+ * at its place. */
+static uint32_t list_answer(uint32_t answer)
+{
+    if (answer < GRADES_EVALUATE_REFUSED || answer == GRADES_EVALUATE_REFUSED_CELL)
+        return 0;
+    return answer - GRADES_EVALUATE_REFUSED + GRADES_REFUSED;
+}
+
+static uint8_t list_byte(uint32_t answer)
+{
+    return (uint8_t)(answer < GRADES_EVALUATE_REFUSED ? answer : GRADES_NO_CELL);
+}
+
+/* A list of one cell, and the same call with an empty list, where grades_evaluate answers this. */
+static void expect_alone(const char *cell_name, struct list list, uint32_t answer)
+{
+    const uint32_t wanted = list_answer(answer);
+    const uint8_t byte = list_byte(answer);
+    char name[96];
+
+    sprintf(name, "%s, in a list", cell_name);
+    expect_list(name, &list, wanted, &byte);
+    list.count = list.grades_bytes = 0;
+    sprintf(name, "%s, with an empty list", cell_name);
+    expect_list(name, &list, wanted, &byte);
+}
+
+static void expect(const char *name, size_t network_bytes, const uint8_t *shape, size_t shape_bytes,
+                   size_t work_bytes, uint32_t cell, uint32_t wanted)
+{
+    const size_t written =
+        wanted < GRADES_EVALUATE_REFUSED ? GRADES_RUN_WORK_BYTES(network_bytes) : 0;
+    const uint16_t number = (uint16_t)(cell < UINT16_MAX ? cell : UINT16_MAX);
+    const struct list alone = {network_bytes, shape, shape_bytes, &number, 1, 1, work_bytes};
+
+    memset(around, FILL, sizeof around);
+    check_answer(name,
+                 grades_evaluate(network, network_bytes, shape, shape_bytes, around + GUARD,
+                                 work_bytes, cell),
+                 wanted);
+    check_work(name, work_bytes, written);
+    expect_alone(name, alone, wanted);
 }
 
 static void lend_parity(void)
@@ -216,6 +291,93 @@ static void order(void)
            GRADES_EVALUATE_REFUSED_NETWORK);
 }
 
+/* Lists of E's cells in no order, some twice, and of the first and the last number with no cell. */
+static const uint16_t visits[] = {3, 1, 4, 1, 65535, 0, 2, 2};
+static const uint8_t wanted_of_visits[] = {0, 1, 255, 1, 255, 0, 1, 1};
+#define VISITS (sizeof wanted_of_visits)
+
+static void expect_visits(const char *name, size_t shape_bytes, size_t count, size_t grades_bytes,
+                          size_t work_bytes, uint32_t wanted)
+{
+    const struct list list = {parity_bytes, square,       shape_bytes, visits,
+                              count,        grades_bytes, work_bytes};
+
+    expect_list(name, &list, wanted, wanted_of_visits);
+}
+
+static void lists(void)
+{
+    struct list list = {parity_bytes, square, sizeof square, visits, VISITS, VISITS, 7};
+    size_t count;
+
+    lend_parity();
+    expect_visits("visits", 10, VISITS, VISITS, 7, 0);
+    expect_visits("visits, longer grades", 10, VISITS, VISITS + 20, 7, 0);
+    expect_visits("visits, longer work", 10, VISITS, VISITS, 20, 0);
+    expect_visits("no visits", 10, 0, 0, 7, 0);
+    expect_visits("no visits, longer buffers", 10, 0, 20, 20, 0);
+    for (count = 1; count < VISITS; count++) {
+        const size_t rest = VISITS - count;
+        expect_visits("the first visits", 10, count, VISITS, 7, 0);
+        list.cells = visits + rest;
+        list.count = count;
+        expect_list("the last visits", &list, 0, wanted_of_visits + rest);
+    }
+}
+
+/* Of two faults, the one that is tested for first; numbers with no cell are none. */
+static void list_refusals(void)
+{
+    lend_parity();
+    expect_visits("one grade byte too few", 10, VISITS, VISITS - 1, 7, GRADES_REFUSED_BUFFER);
+    expect_visits("no grade bytes", 10, VISITS, 0, 7, GRADES_REFUSED_BUFFER);
+    expect_visits("one work byte too few", 10, VISITS, VISITS, 6, GRADES_REFUSED_BUFFER);
+    expect_visits("no visits, one work byte too few", 10, 0, 0, 6, GRADES_REFUSED_BUFFER);
+    expect_visits("nine shape bytes", 9, VISITS, VISITS, 7, GRADES_REFUSED_SHAPE);
+    expect_visits("nine shape bytes, no grade bytes", 9, VISITS, 0, 7, GRADES_REFUSED_SHAPE);
+    expect_visits("nine shape bytes, no work bytes", 9, VISITS, VISITS, 0, GRADES_REFUSED_SHAPE);
+    expect_visits("nine shape bytes, no visits", 9, 0, 0, 7, GRADES_REFUSED_SHAPE);
+    network[6 * RECORD] = 4;
+    expect_visits("an unknown kind", 10, VISITS, VISITS, 7, GRADES_REFUSED_NETWORK);
+    expect_visits("an unknown kind, one grade byte too few", 10, VISITS, VISITS - 1, 7,
+                  GRADES_REFUSED_BUFFER);
+    expect_visits("an unknown kind, one work byte too few", 10, VISITS, VISITS, 6,
+                  GRADES_REFUSED_BUFFER);
+    expect_visits("an unknown kind, no visits", 10, 0, 0, 7, GRADES_REFUSED_NETWORK);
+}
+
+/* Every number twice, in no order, by literals and gates that give many grades: at each place what
+ * grades_evaluate has for that number. */
+static void every_number(void)
+{
+    static const uint8_t shape[10] = {4, 8, 8, 8, 2, 0, 0, 0, 0, 16};
+    static const uint8_t records[7][RECORD] = {
+        {1, 0, 0, 0, 0, 0, 0, 0, 0, 2, 4, 6, 8, 10, 12, 14},
+        {1, 1, 0, 0, 0, 0, 0, 0, 15, 13, 11, 9, 7, 5, 3, 1},
+        {2, 0, 0, 0, 0, 0, 1, 0},
+        {1, 2, 0, 0, 0, 0, 0, 0, 5, 0, 7, 2, 9, 4, 11, 6},
+        {1, 3, 0, 0, 0, 0, 0, 0, 3, 12},
+        {2, 0, 0, 0, 3, 0, 4, 0},
+        {3, 0, 0, 0, 2, 0, 5, 0},
+    };
+    static uint16_t numbers[2 * NUMBERS];
+    static uint8_t wanted[2 * NUMBERS];
+    struct list list = {sizeof records, shape, sizeof shape, numbers, 2 * NUMBERS,
+                        sizeof wanted,  7};
+    size_t at;
+
+    memcpy(network, records, sizeof records);
+    for (at = 0; at < sizeof wanted; at++) {
+        /* Odd, so that all numbers come before one comes again. */
+        numbers[at] = (uint16_t)(at * 40503u % NUMBERS);
+        wanted[at] = list_byte(grades_evaluate(network, sizeof records, shape, sizeof shape,
+                                               around + GUARD, 7, numbers[at]));
+    }
+    expect_list("every number", &list, 0, wanted);
+    list.grades_bytes--;
+    expect_list("every number, one grade byte too few", &list, GRADES_REFUSED_BUFFER, wanted);
+}
+
 int main(void)
 {
     grades();
@@ -225,5 +387,8 @@ int main(void)
     records();
     cells();
     order();
+    lists();
+    list_refusals();
+    every_number();
     return checked("evaluate");
 }

@@ -11,7 +11,7 @@ static const uint8_t not_grades[CELLS] = {0, 0, 0, 2};
 static const uint8_t of_second[CELLS] = {0, 0, 1, 1};
 
 /* Buffers to write: each is longer than a call asks for. */
-static uint8_t shape[16], lower[16], upper[16], work[160], network[256], depth[16];
+static uint8_t shape[16], lower[16], upper[16], work[160], network[256], depth[16], grades[16];
 
 static void fill_buffers(void)
 {
@@ -21,6 +21,7 @@ static void fill_buffers(void)
     memset(work, FILL, sizeof work);
     memset(network, FILL, sizeof network);
     memset(depth, FILL, sizeof depth);
+    memset(grades, FILL, sizeof grades);
 }
 
 /* The bytes wanted stand at the front of a buffer, and nothing behind them has changed. */
@@ -40,6 +41,7 @@ static void check_refused(const char *name, uint32_t answer, uint32_t wanted)
     check_front(name, work, sizeof work, "", 0);
     check_front(name, network, sizeof network, "", 0);
     check_front(name, depth, sizeof depth, "", 0);
+    check_front(name, grades, sizeof grades, "", 0);
 }
 
 /* Reading. */
@@ -192,6 +194,7 @@ static uint32_t compile(size_t shape_bytes, const uint8_t *low, const uint8_t *h
 
 static void compiling(void)
 {
+    static const uint16_t numbers[CELLS] = {0, 1, 2, 3};
     const char *name = "compiling";
     uint32_t cell;
 
@@ -206,6 +209,12 @@ static void compiling(void)
     for (cell = 0; cell < CELLS; cell++)
         check_answer("a compiled grade",
                      grades_evaluate(network, parity_bytes, square, 10, work, 7, cell), odd[cell]);
+    name = "compiled grades";
+    check_answer(name,
+                 grades_evaluate_each(network, parity_bytes, square, 10, numbers, CELLS, grades,
+                                      CELLS, work, 7),
+                 0);
+    check_front(name, grades, sizeof grades, odd, CELLS);
 }
 
 /* A forecast. No network is lent. */

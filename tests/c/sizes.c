@@ -12,6 +12,10 @@ static uint8_t work[GRADES_COMPILE_WORK_BYTES(MOST_CELLS)];
 
 static uint8_t depth[GRADES_DEPTH_BYTES];
 
+/* All cells, and the first number that has none. */
+static uint16_t numbers[MOST_CELLS + 1];
+static uint8_t grades[MOST_CELLS + 1];
+
 /* A shape, by a network of one constant at a cell. */
 static void expect_shape(const char *name, uint32_t cell, uint32_t wanted)
 {
@@ -78,7 +82,7 @@ static void files(void)
                  GRADES_REFUSED_FILE_LENGTH);
 }
 
-/* Compiling, a forecast and checking with exactly the bytes that they ask for. */
+/* Compiling, a forecast, checking and a list with exactly the bytes that they ask for. */
 
 static uint32_t compile(size_t work_bytes, size_t network_bytes)
 {
@@ -124,6 +128,33 @@ static uint32_t check_network(size_t network_bytes, size_t work_bytes)
                         work, work_bytes);
 }
 
+static uint32_t evaluate_each(size_t network_bytes, size_t grades_bytes, size_t work_bytes)
+{
+    memset(grades, FILL, sizeof grades);
+    return grades_evaluate_each(network, network_bytes, shape, sizeof shape, numbers,
+                                (size_t)cells + 1, grades, grades_bytes, work, work_bytes);
+}
+
+/* The list of all cells and one number more, by a network of the table. */
+static void expect_listed(size_t network_bytes)
+{
+    const size_t grades_bytes = (size_t)cells + 1;
+    const size_t work_bytes = GRADES_RUN_WORK_BYTES(network_bytes);
+    char name[32];
+    uint32_t cell;
+
+    sprintf(name, "a list of %u cells", (unsigned)cells);
+    for (cell = 0; cell <= cells; cell++)
+        numbers[cell] = (uint16_t)cell;
+    check_answer(name, evaluate_each(network_bytes, grades_bytes - 1, work_bytes),
+                 GRADES_REFUSED_BUFFER);
+    check_answer(name, evaluate_each(network_bytes, grades_bytes, work_bytes - 1),
+                 GRADES_REFUSED_BUFFER);
+    check_answer(name, evaluate_each(network_bytes, grades_bytes, work_bytes), 0);
+    check(memcmp(grades, lower, cells) == 0, name, "other grades than the table's");
+    check(grades[cells] == GRADES_NO_CELL, name, "a grade of no cell");
+}
+
 /* Compiles and forecasts the parity of the shape's values, and answers the number of records. */
 static uint32_t expect_compiled(void)
 {
@@ -146,6 +177,7 @@ static uint32_t expect_compiled(void)
     check_answer(name, check_network(bytes, GRADES_RUN_WORK_BYTES(bytes)), 0);
     check_answer(name, check_network(bytes, GRADES_RUN_WORK_BYTES(bytes) - 1),
                  GRADES_REFUSED_BUFFER);
+    expect_listed(bytes);
     sprintf(name, "forecast %u cells", (unsigned)cells);
     check_answer(name, forecast(work_bytes - 1, GRADES_DEPTH_BYTES), GRADES_REFUSED_BUFFER);
     check_answer(name, forecast(work_bytes, GRADES_DEPTH_BYTES - 1), GRADES_REFUSED_BUFFER);

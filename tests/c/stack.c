@@ -25,6 +25,7 @@ static struct {
     {"forecast", forecast_lent, GRADES_COMPILE_STACK_BYTES, 0},
     {"check", check_lent, GRADES_RUN_STACK_BYTES, 0},
     {"evaluate", evaluate_lent, GRADES_RUN_STACK_BYTES, 0},
+    {"evaluate_each", evaluate_each_lent, GRADES_EACH_STACK_BYTES, 0},
 };
 enum {
     READ,
@@ -34,6 +35,7 @@ enum {
     FORECAST,
     CHECK,
     EVALUATE,
+    EVALUATE_EACH,
     CALLS
 };
 
@@ -105,6 +107,8 @@ static uint32_t measure(size_t i, const struct lent *lent)
 static uint8_t work[GRADES_COMPILE_WORK_BYTES(MOST_CELLS)];
 static uint8_t network[GRADES_MAX_RECORDS * RECORD];
 static uint8_t depth[GRADES_DEPTH_BYTES];
+static uint16_t numbers[4 * MOST_CELLS];
+static uint8_t grades[4 * MOST_CELLS];
 static uint8_t read_shape[GRADES_SHAPE_BYTES];
 static uint8_t first_lower[MOST_CELLS], first_upper[MOST_CELLS];
 static uint8_t second_lower[MOST_CELLS], second_upper[MOST_CELLS];
@@ -145,7 +149,35 @@ static unsigned joining(size_t gate)
     return joins;
 }
 
-/* A network against the table's limits, and at the last cell. */
+/* Whether a grade is within the limits of its cell, or a byte is that of a number with no cell. */
+static int within(uint32_t number, uint32_t grade)
+{
+    if (number >= cells)
+        return grade == GRADES_NO_CELL;
+    return lower[number] <= grade && grade <= upper[number];
+}
+
+/* A network at a long list: all cells and numbers past them, each twice. */
+static void listing(size_t network_bytes)
+{
+    struct lent lent[] = {{WHOLE(network)},
+                          {WHOLE(shape)},
+                          {(uint8_t *)numbers, sizeof numbers},
+                          {WHOLE(grades)},
+                          {WHOLE(work)}};
+    uint32_t outside = 0;
+    size_t at;
+
+    lent[0].bytes = network_bytes;
+    for (at = 0; at < sizeof grades; at++)
+        numbers[at] = (uint16_t)(at % (2 * MOST_CELLS));
+    check_answer("evaluate_each", measure(EVALUATE_EACH, lent), 0);
+    for (at = 0; at < sizeof grades; at++)
+        outside += !within(numbers[at], grades[at]);
+    check_answer("outside the limits", outside, 0);
+}
+
+/* A network against the table's limits, at the last cell, and at a long list. */
 static void running(size_t network_bytes)
 {
     struct lent table[] = {
@@ -157,8 +189,8 @@ static void running(size_t network_bytes)
     check_answer("check", measure(CHECK, table), 0);
     cell_number = cells - 1;
     grade = measure(EVALUATE, cell);
-    check(lower[cell_number] <= grade && grade <= upper[cell_number], "evaluate",
-          "outside the limits");
+    check(within(cell_number, grade), "evaluate", "outside the limits");
+    listing(network_bytes);
 }
 
 /* The table that was made, and then its network. Gives the number of records. */

@@ -59,6 +59,12 @@ module _ (n : ℕ) (cards : List ℕ) (m : ℕ) (eight : length cards ≡ 8) (h 
   pub few-cells : cells (places cards) ≤ maxCells
   few-cells = leb→le (cells (places cards)) maxCells (and-r (leb 2 m && leb m maxGrades) (leb (cells (places cards)) maxCells) last)
 
+  pub two-grades : 2 ≤ m
+  two-grades = leb→le 2 m (and-l (leb 2 m) (leb m maxGrades) grades)
+
+  pub few-grades : m ≤ maxGrades
+  few-grades = leb→le m maxGrades (and-r (leb 2 m) (leb m maxGrades) grades)
+
   pub accepted-table : (l : Limits) → T (limitsSound (places cards) m l) → Table (places cards) m l
   accepted-table l w =
       record {
@@ -66,8 +72,8 @@ module _ (n : ℕ) (cards : List ℕ) (m : ℕ) (eight : length cards ≡ 8) (h 
         few-conditions = omega (arith, length-places cards);
         few-values = few-values;
         few-cells = few-cells;
-        grades = leb→le 2 m (and-l (leb 2 m) (leb m maxGrades) grades);
-        few-grades = leb→le m maxGrades (and-r (leb 2 m) (leb m maxGrades) grades);
+        grades = two-grades;
+        few-grades = few-grades;
         ordered = λ c hc. leb→le _ _ (and-l (low c) (high c) (both c hc));
         top = λ c hc. omega (arith, ltb→lt (at (l .upper) c) m (and-r (low c) (high c) (both c hc)));
       }

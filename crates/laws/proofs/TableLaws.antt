@@ -2,7 +2,7 @@
 use Prim.Native.Nat.{ℕ, zero, suc, _+_, _≤_, _<_}
 use mathlib.Core.Path.{_≡_, refl, sym, _∙_, ap, ap₂, subst}
 use mathlib.Core.Bool.{Bool, true, false, _&&_}
-use mathlib.Core.List.{List, [], _∷_}
+use mathlib.Core.List.{List, [], _∷_, map}
 use mathlib.Core.Logic.{⊎-elim}
 use native.Mathlib.Nat.{add-zero, zero-add, le-refl, not-suc-le-zero, le-of-suc-le-suc, eq-or-lt-of-le}
 use native.Mathlib.Numerals.{add-one}
@@ -19,6 +19,12 @@ getD-tabFrom f (suc n) i (suc c) h = getD-tabFrom f n (suc i) c (le-of-suc-le-su
 
 pub at-tabulate : (n : ℕ) (f : ℕ → ℕ) (c : ℕ) → c < n → at (tabulate n f) c ≡ f c
 at-tabulate n f c h = getD-tabFrom f n 0 c h ∙ ap f (zero-add c)
+
+-- a list put through a function, place by place
+pub at-map : (f : ℕ → ℕ) (l : List ℕ) (i : ℕ) → i < length l → at (map f l) i ≡ f (at l i)
+at-map f [] i h = absurd (not-suc-le-zero h)
+at-map f (x ∷ l) zero h = refl
+at-map f (x ∷ l) (suc i) h = at-map f l i (le-of-suc-le-suc h)
 
 pub all-at : (n : ℕ) (p : ℕ → Bool) → T (all n p) → (c : ℕ) → c < n → T (p c)
 all-at zero p h c lt = absurd (not-suc-le-zero lt)

@@ -31,6 +31,11 @@ pub row-passed : {A : Type 0} (b : Bool) (q : Refusal) (v : Verdict A) {x : A} �
 row-passed true q v e = (refl, e)
 row-passed false q v e = refused-accepted e
 
+-- a row above one that stops the call stops it in the same way, whatever would come below that
+pub same-stop : {A B : Type 0} (b : Bool) (q : Refusal) {v : Verdict A} {w : Verdict B} {r : Refusal} → (v ≡ refused r → w ≡ refused r) → unless b q v ≡ refused r → unless b q w ≡ refused r
+same-stop true q f e = f e
+same-stop false q f e = ap refused (refused-same e)
+
 -- a last row that did not stop the call
 pub last-passed : {A : Type 0} (v : Verdict A) (test : A → Bool) (q : Refusal) {x : A} → andThen v (λ y. unless (test y) q (accepted y)) ≡ accepted x → v ≡ accepted x
 last-passed (accepted y) test q e = row-passed (test y) q (accepted y) e .1

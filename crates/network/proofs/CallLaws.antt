@@ -2,7 +2,7 @@
 use Prim.Native.Nat.{ℕ, _/_, _≤_}
 use mathlib.Core.Path.{_≡_, refl, ap₂}
 use mathlib.Core.Bool.{Bool, true, _&&_}
-use mathlib.Core.List.{List, [], _∷_}
+use mathlib.Core.List.{List, [], _∷_, map}
 use lib.Dec.{T, leb, ltb, leb→le}
 use lib.ListN.{length}
 use Rattle.rules.specs.declared.Refusal.{Refusal}
@@ -12,9 +12,11 @@ use Rattle.rules.specs.Limits.{limitsOf, limitsSound}
 use Rattle.rules.specs.Verdict.{Verdict, accepted, unless, roomy}
 use Rattle.rules.specs.Network.{networkSound, evaluate}
 use Rattle.rules.specs.NetworkCalls.{checkFrom, evaluateCall}
+use Rattle.rules.specs.Visits.{visitByte}
 use Rattle.shape.specs.declared.Shape.{Shape}
 use Rattle.shape.specs.Shapes.{cardsOf, placesOf, isSound}
 use Rattle.laws.proofs.TestLaws.{and-l, and-r, passes}
+use Rattle.network.specs.EvaluatingEach.{eachRows}
 use Rattle.network.specs.Checking.{checkRows}
 
 -- a row whose test is known, above rows that are
@@ -34,6 +36,13 @@ module _ (shape : Shape) (net : List ℕ) where
       ≡ unless a ShapeRange (unless b ShortBuffer (unless d Network (unless e CellNumber (accepted (evaluate (placesOf shape) net cell)))))
   evaluate-by cell work a b d e p q s t =
       row ShapeRange _ a _ _ p (row ShortBuffer _ b _ _ q (row Network _ d _ _ s (row CellNumber _ e (accepted (evaluate (placesOf shape) net cell)) _ t refl)))
+
+  pub each-by : (visits grades work : List ℕ) (a b d e : Bool) → isSound shape ≡ a → roomTest work ≡ b → leb (length visits) (length grades) ≡ d → networkTest ≡ e
+      → eachRows net visits grades work shape
+      ≡ unless a ShapeRange (unless (b && d) ShortBuffer (unless e Network (accepted (map (visitByte (placesOf shape) net) visits))))
+  each-by visits grades work a b d e p q s t =
+      row ShapeRange _ a _ _ p
+      (row ShortBuffer _ (b && d) _ _ (ap₂ (λ (x y : Bool). x && y) q s) (row Network _ e (accepted (map (visitByte (placesOf shape) net) visits)) _ t refl))
 
   pub check-by : (lower upper work : List ℕ) (a b d f g : Bool) → isSound shape ≡ a → roomy (cells (placesOf shape)) (length lower ∷ length upper ∷ []) ≡ b → roomTest work ≡ d
       → limitsSound (placesOf shape) (shape .m) (limitsOf lower upper) ≡ f → networkTest ≡ g

@@ -1,27 +1,22 @@
 -- The promise of `evaluate`, from its answer.
 use Prim.Native.Nat.{ℕ, _/_, _<_}
 use mathlib.Core.Path.{_≡_, refl, sym, _∙_, ap, subst}
-use mathlib.Core.Bool.{_&&_}
+use mathlib.Core.Bool.{true}
 use mathlib.Core.List.{List, [], _∷_}
-use native.Mathlib.Omega.{arith}
-use lib.Dec.{leb, leb→le, ltb}
+use lib.Dec.{leb, ltb}
 use lib.ListN.{length}
 use Rattle.rules.specs.declared.Refusal.{Refusal}
 use Rattle.rules.specs.declared.Refusal.the-variants.{ShapeRange, ShortBuffer, Network, CellNumber}
-use Rattle.rules.specs.Bytes.{at, all, Past}
+use Rattle.rules.specs.Bytes.{Past}
 use Rattle.rules.specs.Cell.{cells}
-use Rattle.rules.specs.Shape.{placeSound, maxConditions, maxGrades, maxCells}
 use Rattle.rules.specs.Verdict.{Verdict, accepted, refused, answerOf}
 use Rattle.rules.specs.Network.{networkSound, evaluate}
 use Rattle.rules.specs.NetworkCalls.{evaluateCall}
-use Rattle.laws.proofs.TestLaws.{passes, and-l, and-r}
 use Rattle.laws.proofs.VerdictLaws.{refused-accepted, accepted-same, row-passed}
-use Rattle.laws.proofs.AcceptLaws.{few-values}
 use Rattle.laws.proofs.ByteLaws.{past-same}
 use Rattle.shape.specs.declared.Shape.{Shape}
 use Rattle.shape.specs.Shapes.{cardsOf, placesOf, isSound}
-use Rattle.shape.proofs.ShapeLaws.{eight-cards}
-use Rattle.network_run.proofs.BelowLaws.{evaluate-below}
+use Rattle.network_run.proofs.BelowLaws.{grade-below}
 use Rattle.network.specs.declared.Evaluation.{Evaluation}
 use Rattle.network.specs.declared.Evaluation.the-variants.{Grade, Refused}
 use Rattle.network.specs.Evaluating.{evaluationVerdict, evaluationMeans, GradeAt, Evaluated}
@@ -29,6 +24,12 @@ use Rattle.network.specs.Evaluating.{evaluationVerdict, evaluationMeans,
 means : (answer : Evaluation) → evaluationMeans answer ≡ answerOf (λ q. q ∷ []) (evaluationVerdict answer)
 means (Grade q) = refl
 means (Refused r) = refl
+
+-- the grade of a sound network
+pub network-grade : {shape : Shape} {net : List ℕ} {cell q : ℕ} → isSound shape ≡ true → networkSound (placesOf shape) (shape .m) net ≡ true
+    → q ≡ evaluate (placesOf shape) net cell → GradeAt shape net cell q
+network-grade {shape} {net} {cell} sound network e =
+    record { reads = e; below = subst (λ (x : ℕ). x < shape .m) (sym e) (grade-below shape net sound network cell) }
 
 module _ (shape : Shape) (net : List ℕ) (cell : ℕ) (work : List ℕ) where
   abbrev rows : Verdict ℕ
@@ -38,19 +39,11 @@ module _ (shape : Shape) (net : List ℕ) (cell : ℕ) (work : List ℕ) where
   grade-at : {q : ℕ} → rows ≡ accepted q → GradeAt shape net cell q
   grade-at {q} e =
       let ks : List ℕ = placesOf shape in
-      let m : ℕ = shape .m in
       let sound = row-passed (isSound shape) ShapeRange _ e in
       let room = row-passed (leb (length net / 16) (length work)) ShortBuffer _ (sound .1) in
-      let network = row-passed (networkSound ks m net) Network _ (room .1) in
+      let network = row-passed (networkSound ks (shape .m) net) Network _ (room .1) in
       let there = row-passed (ltb cell (cells ks)) CellNumber _ (network .1) in
-      let result : evaluate ks net cell ≡ q = accepted-same (there .1) in
-      let h = passes (sound .0) in
-      let last = and-r (all 8 (λ i. placeSound (shape .n) i (at (cardsOf shape) i))) ((leb 2 m && leb m maxGrades) && leb (cells ks) maxCells) (and-r (leb (shape .n) maxConditions) _ h) in
-      let two = leb→le 2 m (and-l (leb 2 m) (leb m maxGrades) (and-l (leb 2 m && leb m maxGrades) (leb (cells ks) maxCells) last)) in
-      record {
-        reads = sym result;
-        below = subst (λ (x : ℕ). x < m) result (evaluate-below m (omega (arith, two)) ks net cell (few-values (shape .n) (cardsOf shape) m (eight-cards shape) h) (network .0));
-      }
+      network-grade (sound .0) (network .0) (sym (accepted-same (there .1)))
 
   module _ {answer : Evaluation} (e : evaluationVerdict answer ≡ rows) where
     grade-means : (q : ℕ) → answer ≡ Grade q → GradeAt shape net cell q

@@ -1,4 +1,5 @@
 -- What several proofs use.
 pub mod CallLaws
 pub mod CheckLaws
+pub mod EachLaws
 pub mod EvaluateLaws

@@ -1,3 +1,4 @@
 -- What the contracts of `network` cite.
 pub mod Evaluating
+pub mod EvaluatingEach
 pub mod Checking

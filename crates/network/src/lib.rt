@@ -1,10 +1,12 @@
-// Networks: whether one is sound, its grade at a cell, and whether it keeps within limits.
+// Networks: whether one is sound, its grade at a cell and at each cell of a list, and whether it
+// keeps within limits.
 ghost use mathlib.Core.Path.{_≡_};
 ghost use mathlib.Core.Bool.{_&&_};
 ghost use mathlib.Core.List.{[], _∷_};
 ghost use lib.Dec.{leb};
 ghost use Rattle.rules.specs.Verdict.{roomy};
 ghost use Rattle.network.specs.Evaluating.{Evaluated};
+ghost use Rattle.network.specs.EvaluatingEach.{EvaluatedEach};
 ghost use Rattle.network.specs.Checking.{Checked, Checkable, Searched};
 use rules::RECORD;
 use rules::Refusal;
@@ -12,6 +14,12 @@ use shape::Shape;
 
 pub enum Evaluation {
     Grade(u8),
+    Refused(Refusal),
+}
+
+// A byte for each number of a list written to the buffer lent for them, or why not.
+pub enum EachAnswer {
+    Grades,
     Refused(Refusal),
 }
 
@@ -39,6 +47,33 @@ pub fn evaluate(network: &[u8], shape: Shape, work: &mut [u8], cell: usize) -> E
         return Evaluation::Refused(Refusal::CellNumber);
     }
     Evaluation::Grade(network_run::grade_at(network, shape, cell, work))
+}
+
+// The network's grade at each cell of a list, 255 for a number that is no cell's. The work buffer
+// has a byte for each record, that of the grades one for each number.
+pub fn evaluate_each(
+    network: &[u8],
+    shape: Shape,
+    cells: &[u16],
+    grades: &mut [u8],
+    work: &mut [u8],
+) -> EachAnswer
+    ensures { λ r. ⌜ EvaluatedEach shape (now (network .entry)) (now (cells .entry)) (now (grades .entry)) (now (work .entry)) r (now (grades .exit)) (now (work .exit)) ⌝ }
+{
+    if !shape.sound() {
+        return EachAnswer::Refused(Refusal::ShapeRange);
+    }
+    if work.len() < network.len() / RECORD {
+        return EachAnswer::Refused(Refusal::ShortBuffer);
+    }
+    if grades.len() < cells.len() {
+        return EachAnswer::Refused(Refusal::ShortBuffer);
+    }
+    if !network_scan::scan(network, shape.places(), shape.m) {
+        return EachAnswer::Refused(Refusal::Network);
+    }
+    network_visits::grade_each(network, shape, cells, grades, work);
+    EachAnswer::Grades
 }
 
 // Whether the network's grade lies within the limits at every cell.

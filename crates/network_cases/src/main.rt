@@ -6,6 +6,8 @@ use network::CheckAnswer;
 use network::Evaluation;
 use shape::Shape;
 
+mod visits;
+
 // A network of at most sixteen records.
 struct Records {
     bytes: [u8; 256],
@@ -571,4 +573,5 @@ fn main() {
     cells();
     checks();
     refused_checks();
+    visits::all();
 }

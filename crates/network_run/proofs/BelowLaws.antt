@@ -11,8 +11,12 @@ use Rattle.rules.specs.declared.Gate.the-variants.{Min, Max}
 use Rattle.rules.specs.Bytes.{at, word, recordAt}
 use Rattle.rules.specs.Cell.{card, present, value}
 use Rattle.rules.specs.Network.{Record, gate, recordOf, recordsFrom, networkRecords, recordGrade, run, literalByteSound, recordSound, networkSound, evaluate}
-use Rattle.laws.proofs.TestLaws.{and-r, cond-ok, passed, failed}
+use Rattle.laws.proofs.AcceptLaws.{two-grades, few-values}
+use Rattle.laws.proofs.TestLaws.{and-r, cond-ok, passes, passed, failed}
 use Rattle.laws.proofs.TableLaws.{all-at, tabulate-from-below}
+use Rattle.shape.specs.declared.Shape.{Shape}
+use Rattle.shape.specs.Shapes.{cardsOf, placesOf, isSound}
+use Rattle.shape.proofs.ShapeLaws.{eight-cards}
 use Rattle.network_scan.proofs.SoundLaws.{gradesSound}
 use Rattle.network_run.proofs.ReadLaws.{last-test, each-sound}
 
@@ -61,3 +65,11 @@ module _ (m : ℕ) (some : 0 < m) where
   pub evaluate-below : (ks net : List ℕ) (c : ℕ) → ((i : ℕ) → card ks i ≤ 8) → networkSound ks m net ≡ true → evaluate ks net c < m
   evaluate-below ks net c few s =
       run-below ks few (value ks c) net (length net / 16) 0 [] (λ j a b. each-sound ks m net s j (omega arith)) (λ j. some) (length (run (value ks c) [] (networkRecords ks net)) - 1)
+
+-- of a sound network over a sound shape, which has at most sixteen grades
+module _ (shape : Shape) (net : List ℕ) (sound : isSound shape ≡ true) (network : networkSound (placesOf shape) (shape .m) net ≡ true) where
+  pub grade-below : (cell : ℕ) → evaluate (placesOf shape) net cell < shape .m
+  grade-below cell =
+      let eight = eight-cards shape in
+      evaluate-below (shape .m) (omega (arith, two-grades (shape .n) (cardsOf shape) (shape .m) eight (passes sound))) (placesOf shape) net cell
+      (few-values (shape .n) (cardsOf shape) (shape .m) eight (passes sound)) network

@@ -2,6 +2,7 @@
 // cardinalities, the number of grades.
 ghost use Rattle.rules.specs.declared.Gate.the-variants.{Min, Max};
 ghost use Rattle.panel_networks.specs.Evaluates.{Evaluates};
+ghost use Rattle.panel_networks.specs.EvaluatesEach.{EvaluatesEach};
 ghost use Rattle.panel_reads.specs.Reads.{Reads};
 ghost use Rattle.panel_joins.specs.Joins.{JoinsFirst, JoinsSecond};
 ghost use Rattle.panel_networks.specs.Compiles.{Compiles};
@@ -15,6 +16,21 @@ pub extern "C" fn grades_evaluate(network: &[u8], shape: &[u8], work: &mut [u8],
     ensures { λ r. ⌜ Evaluates (now (network .entry)) (now (shape .entry)) cell (now (work .entry)) (now (work .exit)) r ⌝ }
 {
     panel_networks::evaluate(network, shape, work, cell)
+}
+
+// The grade of a network at each cell of a list, 255 for a number that is no cell's. The work buffer
+// has a byte for each record, that of the grades one for each number.
+#[no_mangle]
+pub extern "C" fn grades_evaluate_each(
+    network: &[u8],
+    shape: &[u8],
+    cells: &[u16],
+    grades: &mut [u8],
+    work: &mut [u8],
+) -> u32
+    ensures { λ r. ⌜ EvaluatesEach (now (network .entry)) (now (shape .entry)) (now (cells .entry)) (now (grades .entry)) (now (work .entry)) r (now (grades .exit)) (now (work .exit)) ⌝ }
+{
+    panel_networks::evaluate_each(network, shape, cells, grades, work)
 }
 
 // The table that a file holds: its shape's ten bytes, and its limits.

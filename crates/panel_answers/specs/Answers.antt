@@ -20,6 +20,8 @@ use Rattle.compile.specs.declared.CompileAnswer.the-variants as compiles
 use Rattle.network.specs.declared.Evaluation.{Evaluation}
 use Rattle.network.specs.declared.Evaluation.the-variants.{Grade}
 use Rattle.network.specs.Evaluating.{evaluationVerdict}
+use Rattle.network.specs.declared.EachAnswer.{EachAnswer}
+use Rattle.network.specs.declared.EachAnswer.the-variants as lists
 use Rattle.network.specs.declared.CheckAnswer.{CheckAnswer}
 use Rattle.network.specs.declared.CheckAnswer.the-variants as checks
 
@@ -58,6 +60,10 @@ joinNumber (joins.Refused r) = 65536 + refusalNumber r
 abbrev pub compileNumber : CompileAnswer → ℕ
 compileNumber (compiles.Records n) = n
 compileNumber (compiles.Refused r) = 65536 + refusalNumber r
+
+abbrev pub eachNumber : EachAnswer → ℕ
+eachNumber lists.Grades = 0
+eachNumber (lists.Refused r) = 65536 + refusalNumber r
 
 abbrev pub checkNumber : CheckAnswer → ℕ
 checkNumber checks.Within = 0

@@ -2,10 +2,11 @@
 ghost use Prim.Native.Nat.{_+_};
 ghost use mathlib.Core.Path.{_≡_};
 ghost use Rattle.rules.specs.Refusal.{refusalNumber};
-ghost use Rattle.panel_answers.specs.Answers.{joinNumber, compileNumber, checkNumber, FewRecords, FewCells, Answered};
+ghost use Rattle.panel_answers.specs.Answers.{joinNumber, compileNumber, eachNumber, checkNumber, FewRecords, FewCells, Answered};
 use compile::CompileAnswer;
 use join::JoinAnswer;
 use network::CheckAnswer;
+use network::EachAnswer;
 use network::Evaluation;
 use rules::Refusal;
 
@@ -47,6 +48,15 @@ pub fn of_compile(answer: CompileAnswer) -> u32
     match answer {
         CompileAnswer::Records(count) => count as u32,
         CompileAnswer::Refused(refusal) => of_refusal(refusal),
+    }
+}
+
+pub fn of_each(answer: EachAnswer) -> u32
+    ensures { λ r. ⌜ r ≡ eachNumber answer ⌝ }
+{
+    match answer {
+        EachAnswer::Grades => 0,
+        EachAnswer::Refused(refusal) => of_refusal(refusal),
     }
 }
 

@@ -1,4 +1,5 @@
 -- Laws of `panel_networks`.
+pub mod EachLaws
 pub mod EvaluateLaws
 pub mod CompileLaws
 pub mod ForecastLaws

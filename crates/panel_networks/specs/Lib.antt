@@ -3,3 +3,4 @@ pub mod Compiles
 pub mod Forecasts
 pub mod Checks
 pub mod Evaluates
+pub mod EvaluatesEach

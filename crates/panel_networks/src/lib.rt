@@ -1,4 +1,5 @@
-// Compiling, forecasting, checking and evaluating for C: the shape is lent as ten bytes, and answers are numbers.
+// Compiling, forecasting, checking and evaluating, one cell or a list of them, for C: the shape is lent as ten bytes,
+// and answers are numbers.
 ghost use Prim.Native.Nat.{_≤_, _<_};
 ghost use mathlib.Core.Path.{_≡_};
 ghost use lib.ListN.{length};
@@ -6,6 +7,7 @@ ghost use Rattle.panel_networks.specs.Compiles.{Compiles};
 ghost use Rattle.panel_networks.specs.Forecasts.{withWord, Forecasts};
 ghost use Rattle.panel_networks.specs.Checks.{Checks};
 ghost use Rattle.panel_networks.specs.Evaluates.{Evaluates};
+ghost use Rattle.panel_networks.specs.EvaluatesEach.{EvaluatesEach};
 use compile::ForecastAnswer;
 use network::Evaluation;
 use rules::Refusal;
@@ -21,6 +23,25 @@ pub fn evaluate(network: &[u8], shape: &[u8], work: &mut [u8], cell: u32) -> u32
             panel_answers::of_evaluation(network::evaluate(network, shape, work, cell as usize))
         }
         ShapeAnswer::Refused(refusal) => panel_answers::of_evaluation(Evaluation::Refused(refusal)),
+    }
+}
+
+// The grade of a network at each cell of a list, 255 for a number that is no cell's; 0 once they are written. The
+// work buffer has a byte for each record, that of the grades one for each number.
+pub fn evaluate_each(
+    network: &[u8],
+    shape: &[u8],
+    cells: &[u16],
+    grades: &mut [u8],
+    work: &mut [u8],
+) -> u32
+    ensures { λ r. ⌜ EvaluatesEach (now (network .entry)) (now (shape .entry)) (now (cells .entry)) (now (grades .entry)) (now (work .entry)) r (now (grades .exit)) (now (work .exit)) ⌝ }
+{
+    match Shape::from_bytes(shape) {
+        ShapeAnswer::Refused(refusal) => panel_answers::of_refusal(refusal),
+        ShapeAnswer::Accepted(shape) => {
+            panel_answers::of_each(network::evaluate_each(network, shape, cells, grades, work))
+        }
     }
 }
 

@@ -3,6 +3,7 @@ use mathlib.Core.Path.{refl}
 use Rattle.rules.specs.SmallForecasts.{Forecasts}
 use Rattle.rules.specs.Small.{Small}
 use Rattle.rules.specs.SmallListings.{SmallListings}
+use Rattle.rules.specs.SmallVisits.{Visits}
 
 pub small-tables : Small
 small-tables =
@@ -15,3 +16,6 @@ small-listings =
 
 pub forecasts : Forecasts
 forecasts = (refl, refl, refl, refl, refl, refl, refl, refl, refl, refl, refl, refl, refl, refl, refl, refl)
+
+pub visits : Visits
+visits = (refl, refl, refl, refl, refl, refl, refl, refl, refl, refl, refl, refl, refl, refl, refl)

@@ -16,7 +16,9 @@ pub mod Stage
 pub mod Demands
 pub mod CompileCall
 pub mod Forecast
+pub mod Visits
 pub mod Small
 pub mod SmallForecasts
+pub mod SmallVisits
 pub mod Listing
 pub mod SmallListings

@@ -2,7 +2,7 @@
 use Prim.Native.Nat.{ℕ, _*_, _/_, _≤_, _<_}
 use mathlib.Core.Path.{_≡_, sym, ap, _∙_, subst}
 use mathlib.Core.Bool.{Bool, true, _&&_}
-use mathlib.Core.List.{List, [], _∷_, _++_}
+use mathlib.Core.List.{List, [], _∷_, _++_, map}
 use native.Mathlib.Omega.{arith}
 use borrow.Author.Tests.{le-leb, lt-ltb}
 use lib.Dec.{T, leb}
@@ -15,6 +15,7 @@ use Rattle.rules.specs.Shape.{places}
 use Rattle.rules.specs.Limits.{Limits, limitsOf, limitsSound}
 use Rattle.rules.specs.Network.{Record, networkRecords, networkSound, evaluate}
 use Rattle.rules.specs.NetworkCalls.{checkFrom}
+use Rattle.rules.specs.Visits.{visitByte}
 use Rattle.rules.specs.Verdict.{Verdict, accepted, verdictNumber, roomy}
 use Rattle.rules.specs.TableFile.{Seen, fileLimits, judgeFile, judgeReading, AsListed}
 use Rattle.rules.specs.Demands.{Between, compiledRecords}
@@ -31,6 +32,7 @@ use Rattle.table_file.proofs.FileLaws.{Accepted, accepted-file}
 use Rattle.table_file.proofs.ReadLaws.{file-judged}
 use Rattle.table_file.proofs.FileTableLaws.{file-table, limits-lent, table-compiles}
 use Rattle.network.specs.Checking.{checkRows}
+use Rattle.network.specs.EvaluatingEach.{eachRows}
 use Rattle.compile.specs.Compiling.{compileRows}
 use Rattle.compile.proofs.RowLaws.{limits-row}
 use Rattle.panel_answers.specs.Answers.{lentShape, lentCells, lent, callNumber, answerNumber}
@@ -38,7 +40,8 @@ use Rattle.panel_reads.specs.Reads.{readVerdict, shapeAfter, Reads}
 use Rattle.panel_networks.specs.Compiles.{Compiles}
 use Rattle.panel_networks.specs.Checks.{Checks}
 use Rattle.panel_networks.specs.Evaluates.{Evaluates, evaluateRows}
-use Rattle.whole_path.specs.WholePath.{Followed, WholePath}
+use Rattle.panel_networks.specs.EvaluatesEach.{EvaluatesEach}
+use Rattle.whole_path.specs.WholePath.{Obeys, Followed, WholePath}
 use Rattle.panel_answers.proofs.ShapeLaws.{called, lent-accepted, ten-lent}
 
 -- n records were compiled
@@ -73,19 +76,33 @@ module _ (bytes lower upper work network : List ℕ) (n : ℕ) (work′ network�
   sound-network : networkSound ks (shape .m) net ≡ true
   sound-network = passed (networkSound ks (shape .m) net) (done .keeps-table counted .sound)
 
+  -- the network's grade at a cell is within the cell's limits
+  grade-within : (cell q : ℕ) → cell < cells ks → q ≡ evaluate ks net cell → Between (limitsOf lower upper) cell q
+  grade-within cell q h e = subst (λ (g : ℕ). Between (limitsOf lower upper) cell g) (sym e) (done .keeps-table counted .within cell h)
+
   module _ (w : List ℕ) (room : n ≤ length w) where
     -- the work buffer has a byte for each record
     roomy-work : leb (length net / 16) (length w) ≡ true
     roomy-work = le-leb (length net / 16) (length w) (omega (arith, length-take (16 * n) network′))
 
-    -- evaluating gives a grade within the cell's limits
+    -- evaluating gives it
     evaluates-within : (cell : ℕ) → cell < cells ks → (after : List ℕ) (q : ℕ) → Evaluates net bytes cell w after q → Between (limitsOf lower upper) cell q
     evaluates-within cell h after q found =
         let verdict : lent bytes (evaluateRows net (length w) cell) ≡ accepted (evaluate ks net cell) =
         ten-lent bytes (evaluateRows net (length w) cell) (pass .ten)
         ∙ row-pass ShapeRange _ (pass .sound) ∙ row-pass ShortBuffer _ roomy-work ∙ row-pass Network _ sound-network ∙ row-pass CellNumber _ (lt-ltb cell (cells ks) h) in
-        let grade : q ≡ evaluate ks net cell = found .answer ∙ ap answerNumber verdict in
-        subst (λ (g : ℕ). Between (limitsOf lower upper) cell g) (sym grade) (done .keeps-table counted .within cell h)
+        grade-within cell q h (found .answer ∙ ap answerNumber verdict)
+
+    -- so does a list of visits, at each place that has a cell
+    visits-within : {visits grades grades′ w′ : List ℕ} {r : ℕ} → length visits ≤ length grades → EvaluatesEach net bytes visits grades w r grades′ w′
+        → (r ≡ 0) × ((i : ℕ) → i < length visits → at visits i < cells ks → Between (limitsOf lower upper) (at visits i) (at grades′ i))
+    visits-within {visits} {grades} {grades′} {w′} {r} long found =
+        let rows : Shape → Verdict (List ℕ) = eachRows net visits grades w in
+        let verdict : lent bytes rows ≡ accepted (map (visitByte ks net) visits) =
+        ten-lent bytes rows (pass .ten) ∙ row-pass ShapeRange _ (pass .sound) ∙ row-pass ShortBuffer _ (and-both roomy-work (le-leb (length visits) (length grades) long))
+        ∙ row-pass Network _ sound-network in
+        let none : r ≡ 0 = found .answer ∙ ap (λ (v : Verdict (List ℕ)). callNumber v (λ written. 0)) verdict in
+        (none, λ i h l. grade-within (at visits i) (at grades′ i) l (found .grade-means none i h l .reads))
 
     -- checking says so
     checks-within : (after : List ℕ) (r : ℕ) → Checks net bytes lower upper w r after → r ≡ 0
@@ -158,6 +175,9 @@ module _ (file shape lower upper shape′ lower′ upper′ : List ℕ) (got : R
       let high : at upper′ cell ≡ at (fileLimits file s .upper) cell = sym (getD-take n upper′ cell 0 h) ∙ ap (λ (y : Limits). at (y .upper) cell) l in
       λ b. (omega (arith, b .0, low), omega (arith, b .1, high))
 
+  obeys : (cell q : ℕ) → cell < cells (places (s .cards)) → Between (limitsOf lower′ upper′) cell q → Obeys file s cell q
+  obeys cell q h b = record { within = at-file cell q h b; unforeseen = λ none. omega (arith, listed .unlisted cell h none .0, b .0) }
+
   module _ (work network work′ network′ : List ℕ) (n : ℕ) (work-room : 16 * lentCells (take 10 shape′) ≤ length work) (network-room : 16 * mostRecords (lentCells (take 10 shape′)) ≤ length network)
       (done : Compiles (take 10 shape′) lower′ upper′ work network n work′ network′) where
     abbrev rows : Shape → Verdict (List Record)
@@ -172,11 +192,8 @@ module _ (file shape lower upper shape′ lower′ upper′ : List ℕ) (got : R
     counted : n < 65536
     counted = omega (arith, done .answer ∙ ap (λ (v : Verdict (List Record)). callNumber v length) accepts, few-compiled (file-table file s whole))
 
-    -- evaluated, the network is within the limits that were written
-    within : (cell : ℕ) → cell < cells (places (s .cards)) → (w after : List ℕ) (q : ℕ) → n ≤ length w → Evaluates (take (16 * n) network′) (take 10 shape′) cell w after q
-        → Between (limitsOf lower′ upper′) cell q
-    within cell h w after q room found =
-        evaluates-within (take 10 shape′) lower′ upper′ work network n work′ network′ done counted w room cell (subst (λ (c : ℕ). cell < c) (sym same-cells) h) after q found
+    here : (cell : ℕ) → cell < cells (places (s .cards)) → cell < lentCells (take 10 shape′)
+    here cell h = subst (λ (c : ℕ). cell < c) (sym same-cells) h
 
     pub followed : Followed file shape′ lower′ upper′ n network′
     followed =
@@ -184,8 +201,11 @@ module _ (file shape lower upper shape′ lower′ upper′ : List ℕ) (got : R
           table = s;
           holds = judged;
           compiled = counted;
-          evaluated = λ cell h w after q room found. at-file cell q h (within cell h w after q room found);
-          unforeseen = λ cell h none w after q room found. omega (arith, listed .unlisted cell h none .0, within cell h w after q room found .0);
+          evaluated = λ cell h w after q room found.
+              obeys cell q h (evaluates-within (take 10 shape′) lower′ upper′ work network n work′ network′ done counted w room cell (here cell h) after q found);
+          visited = λ visits grades w grades′ w′ r room long found.
+              let v = visits-within (take 10 shape′) lower′ upper′ work network n work′ network′ done counted w room long found in
+              (v .0, λ i k h. obeys (at visits i) (at grades′ i) h (v .1 i k (here (at visits i) h)));
           checked = λ w after r room found. checks-within (take 10 shape′) lower′ upper′ work network n work′ network′ done counted w room after r found;
           foretold = λ w depth w′ depth′ count found h.
               let f = found .foretells h work network work′ network′ n done counted in

@@ -1,11 +1,11 @@
--- From a table file to a grade: what holds of a C program that reads a file, compiles the table that it holds, and evaluates or checks the
--- network; and of a forecast of that table.
+-- From a table file to a grade: what holds of a C program that reads a file, compiles the table that it holds, and evaluates the network at a
+-- cell or at a list of them, or checks it; and of a forecast of that table.
 -- Of each call nothing is used but its promise.
 use Prim.Native.Nat.{ℕ, _*_, _≤_, _<_}
 use mathlib.Core.Path.{_≡_}
 use mathlib.Core.List.{List}
 use lib.ListN.{length, take}
-use Rattle.rules.specs.Bytes.{word}
+use Rattle.rules.specs.Bytes.{at, word}
 use Rattle.rules.specs.Cell.{cells}
 use Rattle.rules.specs.Shape.{places}
 use Rattle.rules.specs.Verdict.{accepted}
@@ -20,6 +20,14 @@ use Rattle.panel_networks.specs.Compiles.{Compiles}
 use Rattle.panel_networks.specs.Forecasts.{Forecasts}
 use Rattle.panel_networks.specs.Checks.{Checks}
 use Rattle.panel_networks.specs.Evaluates.{Evaluates}
+use Rattle.panel_networks.specs.EvaluatesEach.{EvaluatesEach}
+
+-- what is asked of a grade at a cell of the table that a file holds
+pub record Obeys (file : List ℕ) (table : Seen) (cell grade : ℕ) : Type 0 where
+  -- it is within the file's limits of that cell
+  pub within : Between (fileLimits file table) cell grade
+  -- and never 0 where the file does not list the cell: a visit that nobody foresaw leaves a line
+  pub unforeseen : Unlisted file (places (table .cards)) cell → 1 ≤ grade
 
 -- what reading has written: ten bytes of shape and the limits; and what compiling these has: n records at the front of the network buffer
 module _ (file shape lower upper : List ℕ) (n : ℕ) (network : List ℕ) where
@@ -35,12 +43,13 @@ module _ (file shape lower upper : List ℕ) (n : ℕ) (network : List ℕ) wher
     pub holds : judgeFile file ≡ accepted table
     -- compiling did not refuse it
     pub compiled : n < 65536
-    -- evaluated at any cell, the network gives a grade within the file's limits of that cell
+    -- evaluated at any cell, the network gives a grade that obeys the file
     pub evaluated : (cell : ℕ) → cell < cells (places (table .cards)) → (work after : List ℕ) (grade : ℕ) → n ≤ length work
-        → Evaluates networkLent shapeLent cell work after grade → Between (fileLimits file table) cell grade
-    -- and never 0 at a cell that the file does not list: a visit that nobody foresaw leaves a line
-    pub unforeseen : (cell : ℕ) → cell < cells (places (table .cards)) → Unlisted file (places (table .cards)) cell → (work after : List ℕ) (grade : ℕ) → n ≤ length work
-        → Evaluates networkLent shapeLent cell work after grade → 1 ≤ grade
+        → Evaluates networkLent shapeLent cell work after grade → Obeys file table cell grade
+    -- evaluated at a list of numbers, at each place that has a cell
+    pub visited : (visits grades work grades′ work′ : List ℕ) (answer : ℕ) → n ≤ length work → length visits ≤ length grades
+        → EvaluatesEach networkLent shapeLent visits grades work answer grades′ work′
+        → (answer ≡ 0) × ((i : ℕ) → i < length visits → at visits i < cells (places (table .cards)) → Obeys file table (at visits i) (at grades′ i))
     -- a check of it against the limits that were read finds every cell within
     pub checked : (work after : List ℕ) (answer : ℕ) → n ≤ length work → Checks networkLent shapeLent lower upper work answer after → answer ≡ 0
     -- a forecast of what was read has told how many records these are, and how deep

@@ -1,0 +1,2 @@
+-- What the contracts of `network_visits` cite.
+pub mod Visiting
