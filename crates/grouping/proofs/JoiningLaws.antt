@@ -10,13 +10,13 @@ use Rattle.rules.specs.Cell.{Positive, cells, singleton, insert, leastOver}
 use Rattle.laws.proofs.LineLaws.{over-insert}
 use Rattle.laws.proofs.OverLaws.{min-bound}
 use Rattle.tables.specs.Part.{part, Shaped}
-use Rattle.tables.specs.Line.{leastOn}
-use Rattle.tables.specs.declared.lines.Along.{Along}
+use Rattle.lines.specs.Along.{leastOn}
+use Rattle.lines.specs.declared.Along.{Along}
 use Rattle.tables.proofs.PartLaws.{part-at}
 use Rattle.laws.proofs.TableLaws.{all-same, all-false}
 use Rattle.tables.proofs.ScanLaws.{all-passed}
 use Rattle.grouping.specs.Joining.{joins, joinsAt, admits}
-use Rattle.tables.proofs.AlongLaws.{Walks, walks-least}
+use Rattle.lines.proofs.AlongLaws.{Walks, walks-least}
 
 -- the tests at every cell, under the rules' definitions: of the pair i, j, and of an addition of i
 abbrev pub pairCell : List ℕ → List ℕ → ℕ → ℕ → ℕ → ℕ → ℕ → Bool

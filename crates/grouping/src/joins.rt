@@ -1,13 +1,13 @@
 // Tests of joins. None writes, and each stops at the first cell that refuses.
+use lines::Along;
 use rules::PLACES;
-use tables::lines;
-use tables::lines::Along;
 ghost use Prim.Native.Nat.{_<_, max};
 ghost use mathlib.Core.Path.{_≡_};
 ghost use mathlib.Core.Bool.{not};
 ghost use lib.Dec.{leb};
 ghost use Rattle.rules.specs.Cell.{cells, singleton};
-ghost use Rattle.tables.specs.Line.{Counts, LineOn, leastOn};
+ghost use Rattle.tables.specs.Line.{Counts};
+ghost use Rattle.lines.specs.Along.{LineOn, leastOn};
 ghost use Rattle.tables.specs.Part.{part};
 ghost use Rattle.grouping.specs.Joining.{Tables, joinsAt, admits};
 

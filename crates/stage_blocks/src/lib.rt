@@ -4,7 +4,6 @@ use places::sets;
 use rules::Gate;
 use rules::PLACES;
 use tables::fill;
-use tables::moves;
 ghost use Prim.Native.Nat.{_+_, _*_, _≤_};
 ghost use Rattle.rules.specs.Cell.{cells};
 ghost use Rattle.rules.specs.Join.{exchangeFor};

@@ -3,7 +3,6 @@
 use places::sets;
 use rules::PLACES;
 use tables::extremes;
-use tables::lines;
 ghost use mathlib.Core.Path.{_≡_};
 ghost use mathlib.Core.Bool.{cond};
 ghost use Rattle.rules.specs.Cell.{cells, singleton, without};

@@ -8,7 +8,6 @@ use places::sets::Condition;
 use rules::Gate;
 use rules::PLACES;
 use tables::fill;
-use tables::moves;
 ghost use Rattle.stage_blocks.specs.Blocks.{JoinedRoom};
 ghost use Rattle.stage_steps.specs.Extents.{GateRoom};
 ghost use Rattle.stage_steps.specs.Ends.{LeafRoom, LeafPut, Closed, SpreadRoom, SpreadLaid};

@@ -3,7 +3,6 @@ use crate::gates;
 use crate::gates::Extent;
 use network_records::put_selector;
 use rules::Gate;
-use tables::moves;
 ghost use Rattle.stage_steps.specs.Values.{ValueRoom, ValueBegun, EndRoom, ValueEnded};
 
 // The literal that selects value k of condition i, as record r, and the limits of the cells with

@@ -9,7 +9,6 @@ use stage_steps::ends;
 use stage_steps::gates::Extent;
 use stage_steps::values;
 use tables::fill;
-use tables::moves;
 ghost use Rattle.rules.specs.Stage.{split, choiceTree, treeOf};
 ghost use Rattle.places.specs.Conditions.{IsLowest};
 ghost use Rattle.stage_drops.specs.Working.{frontStage};

@@ -1,4 +1,3 @@
 -- What the contracts of the table functions cite.
 pub mod Part
 pub mod Line
-pub mod Move

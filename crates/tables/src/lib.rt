@@ -2,7 +2,5 @@
 pub mod extremes;
 pub mod fill;
 pub mod limits;
-pub mod lines;
-pub mod moves;
 pub mod rows;
 pub mod tests;

@@ -4,8 +4,8 @@ use mathlib.Core.List.{List}
 use Prim.Native.Nat.{ℕ, _-_, _≤_, _<_}
 use native.Mathlib.Omega.{arith}
 use Rattle.rules.specs.Cell.{cells}
-use Rattle.tables.proofs.AlongLaws.{walks-line, walks-room, Begins, begins, Scan, scan-none, scan-more}
-use Rattle.tables.proofs.BelowLaws.{test-refuses, test-passes}
+use Rattle.lines.proofs.AlongLaws.{walks-line, walks-room, Begins, begins, Scan, scan-none, scan-more}
+use Rattle.lines.proofs.BelowLaws.{test-refuses, test-passes}
 use Rattle.stage_drops.proofs.CanDropLaws.{dropCell, drop-at, drop-passed, drop-failed, limits-at}
 use borrow.Author.Needs.{needs}
 use Rattle.stage_drops.proofs.can_drop.Statement.{statement}

@@ -37,7 +37,7 @@ use Rattle.stage_steps.proofs.ends.spread.Reads as spread-reads
 use Rattle.stage_steps.proofs.values.begin_value.Reads as begin-value-reads
 use Rattle.stage_steps.proofs.values.end_value.Reads as end-value-reads
 use Rattle.tables.proofs.fill.copy.Reads as copy-reads
-use Rattle.tables.proofs.moves.uncofactor.Reads as uncofactor-reads
+use Rattle.moves.proofs.uncofactor.Reads as uncofactor-reads
 use Rattle.stages.proofs.+join+split+stage.{statement}
 use Rattle.stages.proofs.+join+split+stage.Tie.{close}
 

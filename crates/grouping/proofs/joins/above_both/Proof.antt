@@ -3,8 +3,8 @@ use mathlib.Core.Path.{sym, _∙_, ap}
 use mathlib.Core.Bool.{not}
 use borrow.Author.Tests.{le-leb, lt-leb}
 use borrow.Author.Needs.{needs}
-use Rattle.tables.specs.Line.{leastOn}
-use Rattle.tables.proofs.BelowLaws.{above-left, other-right}
+use Rattle.lines.specs.Along.{leastOn}
+use Rattle.lines.proofs.BelowLaws.{above-left, other-right}
 use Rattle.grouping.proofs.joins.above_both.Statement.{statement}
 use Rattle.grouping.proofs.joins.above_both.Tie as tie
 

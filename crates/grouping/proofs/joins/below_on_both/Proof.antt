@@ -2,8 +2,8 @@
 use mathlib.Core.Path.{sym, _∙_, ap}
 use mathlib.Core.Bool.{not}
 use borrow.Author.Needs.{needs}
-use Rattle.tables.specs.Line.{leastOn}
-use Rattle.tables.proofs.BelowLaws.{test-refuses, test-passes, above-right, other-left}
+use Rattle.lines.specs.Along.{leastOn}
+use Rattle.lines.proofs.BelowLaws.{test-refuses, test-passes, above-right, other-left}
 use Rattle.grouping.proofs.joins.below_on_both.Statement.{statement}
 use Rattle.grouping.proofs.joins.below_on_both.Tie as tie
 

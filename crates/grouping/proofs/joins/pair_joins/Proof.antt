@@ -4,8 +4,8 @@ use mathlib.Core.List.{List}
 use Prim.Native.Nat.{ℕ, _-_, _≤_, _<_}
 use native.Mathlib.Omega.{arith}
 use Rattle.rules.specs.Cell.{cells}
-use Rattle.tables.proofs.AlongLaws.{Walks, walks-line, walks-room, walks-next, Begins, begins, Scan, scan-none, scan-more}
-use Rattle.tables.proofs.BelowLaws.{test-refuses, test-passes}
+use Rattle.lines.proofs.AlongLaws.{Walks, walks-line, walks-room, walks-next, Begins, begins, Scan, scan-none, scan-more}
+use Rattle.lines.proofs.BelowLaws.{test-refuses, test-passes}
 use Rattle.grouping.proofs.JoiningLaws.{pairCell, pair-at, pair-passed, pair-failed}
 use borrow.Author.Needs.{needs}
 use Rattle.grouping.proofs.joins.pair_joins.Statement.{statement}

@@ -1,0 +1,4 @@
+-- What several proofs use.
+pub mod LeastLaws
+pub mod BelowLaws
+pub mod AlongLaws
