@@ -187,6 +187,61 @@ fn evaluate(records: usize) -> Case {
     Case { name: format!("evaluate {} records", grouped(records as f64)), growth: None, prepare: Box::new(prepare) }
 }
 
+/// How many visits a day has; the names of their rows say it too.
+const VISITS: usize = 1_000;
+
+/// A day of visits to a network, each to a cell that noise decides, and the buffers that they take.
+#[derive(Clone)]
+struct Visits {
+    shape: Vec<u8>,
+    network: Vec<u8>,
+    cells: Vec<u16>,
+    grades: Vec<u8>,
+    work: Vec<u8>,
+}
+
+impl Visits {
+    fn new(table: &OwnedTable, network: Vec<u8>) -> Visits {
+        let mut next = noise();
+        let cells = (0..VISITS).map(|_| (next() % table.cells()) as u16).collect();
+        let work = vec![0; network.len() / 16];
+        Visits { shape: table.shape.clone(), network, cells, grades: vec![0; VISITS], work }
+    }
+
+    fn in_one_call(&mut self, calls: &dyn Calls) {
+        calls.evaluate_each(&self.network, &self.shape, &self.cells, &mut self.grades, &mut self.work);
+    }
+
+    fn in_single_calls(&mut self, calls: &dyn Calls) {
+        for (grade, &cell) in self.grades.iter_mut().zip(&self.cells) {
+            *grade = calls.evaluate(&self.network, &self.shape, &mut self.work, cell as u32) as u8;
+        }
+    }
+
+    /// The visits made in this way. The answer is the sum of their grades, so that wrong ones show.
+    fn case(&self, name: String, made: fn(&mut Visits, &dyn Calls)) -> Case {
+        let visits = self.clone();
+        let prepare = move || -> Call {
+            let mut visits = visits.clone();
+            Box::new(move |calls| {
+                made(&mut visits, calls);
+                visits.grades.iter().map(|&grade| grade as u32).sum()
+            })
+        };
+        Case { name, growth: None, prepare: Box::new(prepare) }
+    }
+}
+
+/// A day of visits in one call, and the same in single calls.
+fn visits(name: &str, table: &OwnedTable, network: Vec<u8>) -> [Case; 2] {
+    let to = format!("{} records, {name}", grouped((network.len() / 16) as f64));
+    let visits = Visits::new(table, network);
+    [
+        visits.case(format!("1,000 visits in one call, {to}"), Visits::in_one_call),
+        visits.case(format!("1,000 visits in single calls, {to}"), Visits::in_single_calls),
+    ]
+}
+
 fn check(name: &str, table: OwnedTable) -> Case {
     let prepare = move || -> Call {
         let table = table.clone();
@@ -263,6 +318,12 @@ pub fn all() -> Vec<Case> {
         forecast(name, table.clone())
     }));
     cases.extend([1024, 2048, 4096].map(evaluate));
-    cases.extend([check("monks 2", monks_2()), check("8 2⁷ parity", parity(&LARGEST))]);
+    let wide = parity(&[8, 8, 8, 2]);
+    for records in [64, 512] {
+        cases.extend(visits("8 8 8 2", &wide, long_network(&wide.shape, records)));
+    }
+    let largest = parity(&LARGEST);
+    cases.extend(visits("8 2⁷ parity", &largest, network(&largest)));
+    cases.extend([check("monks 2", monks_2()), check("8 2⁷ parity", largest)]);
     cases
 }

@@ -107,7 +107,7 @@ fn measure() -> Report {
         print!("{}", report.shown(&row));
         report.rows.push(row);
     }
-    print!("\n{}{}", report.worst(), report.forecasts());
+    print!("\n{}{}{}", report.worst(), report.forecasts(), report.visits());
     report
 }
 

@@ -79,41 +79,55 @@ impl Report {
         worst("instructions", |row| &row.counts) + &worst("times", |row| &row.times)
     }
 
-    /// The forecast that takes most of what compiling the same table takes, with the first implementation.
+    /// The forecast that takes most of what compiling the same table takes.
     pub fn forecasts(&self) -> String {
-        let compile = |table: &str| self.rows.iter().find(|row| row.name.strip_prefix("compile ") == Some(table));
+        self.worst_beside("forecast ", "compile ", "a forecast to compiling its table")
+    }
+
+    /// The day of visits that takes most of what as many single calls take.
+    pub fn visits(&self) -> String {
+        let [one, single] = ["1,000 visits in one call, ", "1,000 visits in single calls, "];
+        self.worst_beside(one, single, "a day of visits to as many single calls")
+    }
+
+    /// Of the rows that begin in one way, the one that takes most of what the row takes that begins in the other way
+    /// and goes on alike, with the first implementation.
+    fn worst_beside(&self, begin: &str, other: &str, ratio: &str) -> String {
+        let beside = |rest: &str| self.rows.iter().find(|row| row.name.strip_prefix(other) == Some(rest));
         let most = greatest(self.rows.iter().filter_map(|row| {
-            let table = row.name.strip_prefix("forecast ")?;
-            let (forecast, compile) = (row.counts[0], compile(table)?.counts[0]);
-            Some((forecast / compile, (forecast, compile, table)))
+            let rest = row.name.strip_prefix(begin)?;
+            let (count, beside) = (row.counts[0], beside(rest)?.counts[0]);
+            Some((count / beside, (count, beside, rest)))
         }));
-        most.map_or(String::new(), |(_, (forecast, compile, table))| {
-            let (forecast, compile, name) = (grouped(forecast), grouped(compile), self.names[0]);
-            let figures = format!("{forecast} to {compile} instructions, {name}");
-            format!("Worst ratio of a forecast to compiling its table: {figures}, {table}.\n")
+        most.map_or(String::new(), |(_, (count, beside, rest))| {
+            let figures = format!("{} to {} instructions, {}", grouped(count), grouped(beside), self.names[0]);
+            format!("Worst ratio of {ratio}: {figures}, {rest}.\n")
         })
     }
 
     pub fn document(&self) -> String {
         let table: String = self.rows.iter().map(|row| self.shown(row)).collect();
-        let (heading, forecasts) = (self.heading(), items(&self.forecasts()));
+        let heading = self.heading();
         let ratios = match &items(&self.worst())[..] {
             "" => String::new(),
             worst => format!("- A ratio is the library's figure divided by the plain one's.\n{worst}"),
         };
+        let ratios = ratios + &items(&self.forecasts()) + &items(&self.visits());
         let (rust, rattle) = (version("rustc", "--version"), version("rt", "version"));
         format!(
             "\
 # Benchmarks
 
-What one call costs in the proved library, and in plain safe Rust that answers the same calls with the same bytes
+What a call costs in the proved library, and in plain safe Rust that answers the same calls with the same bytes
 (`tests/second/calls/src/plain`). `bench/run` measures both and writes this file.
 
 - Instructions are counted by callgrind, and are the same in every run with the same compilers.
 - Times are in microseconds, the least in one run, on a machine that does other work as well.
-{ratios}{forecasts}- A table is named by its cardinalities and what it holds: 8 2⁷ is a condition of eight values and seven of two, 1,024 cells.
+{ratios}- A table is named by its cardinalities and what it holds: 8 2⁷ is a condition of eight values and seven of two, 1,024 cells.
   m is the number of grades. A parity table splits at every stage. The drawn tables are among the slowest, each of its
   shape, of some 280,000 that `bench/run search 60` drew and timed.
+- A row of visits has the grades at 1,000 cells, drawn from 1,024, so that some come again: all in one call, or each in a
+  call of its own. The network is that of the table that is named; where only a shape is, it is made up for it.
 - Compilers: `{rust}` for the plain one, `{rattle}` for the library.
 
 {heading}{table}

@@ -33,9 +33,12 @@ pub struct Limits<'a> {
     pub upper: &'a mut [u8],
 }
 
-/// What is added to a refusal's number in the answer of an evaluation, and of every other call.
+/// What is added to a refusal's number in the answer of a single evaluation, and of every other call.
 pub const REFUSED_EVALUATION: u32 = 256;
 pub const REFUSED: u32 = 65_536;
+
+/// What stands for a grade where the number in a list is that of no cell.
+pub const NO_CELL: u8 = 255;
 
 pub trait Calls {
     /// Writes the shape's ten bytes and the limits; answers 0.
@@ -52,4 +55,6 @@ pub trait Calls {
     fn check(&self, network: &[u8], table: Table, work: &mut [u8]) -> u32;
     /// Answers the grade.
     fn evaluate(&self, network: &[u8], shape: &[u8], work: &mut [u8], cell: u32) -> u32;
+    /// Writes the grade at each cell of a list, in its order; answers 0.
+    fn evaluate_each(&self, network: &[u8], shape: &[u8], cells: &[u16], grades: &mut [u8], work: &mut [u8]) -> u32;
 }

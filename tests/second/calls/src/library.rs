@@ -39,6 +39,10 @@ unsafe extern "C" {
         network: In, _: Bytes, shape: In, _: Bytes, lower: In, _: Bytes, upper: In, _: Bytes, work: Out, _: Bytes,
     ) -> u32;
     fn grades_evaluate(network: In, _: Bytes, shape: In, _: Bytes, work: Out, _: Bytes, cell: u32) -> u32;
+    fn grades_evaluate_each(
+        network: In, _: Bytes, shape: In, _: Bytes, cells: *const u16, count: usize, grades: Out, _: Bytes,
+        work: Out, _: Bytes,
+    ) -> u32;
 }
 
 /// Calls a C function. A slice is given as its pointer and its length: those in brackets are read, those in braces
@@ -100,5 +104,9 @@ impl Calls for Library {
 
     fn evaluate(&self, network: &[u8], shape: &[u8], work: &mut [u8], cell: u32) -> u32 {
         call!(grades_evaluate [network] [shape] {work} (cell))
+    }
+
+    fn evaluate_each(&self, network: &[u8], shape: &[u8], cells: &[u16], grades: &mut [u8], work: &mut [u8]) -> u32 {
+        call!(grades_evaluate_each [network] [shape] [cells] {grades} {work})
     }
 }

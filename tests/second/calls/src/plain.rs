@@ -52,4 +52,8 @@ impl Calls for Plain {
     fn evaluate(&self, bytes: &[u8], shape: &[u8], work: &mut [u8], cell: u32) -> u32 {
         answer(REFUSED_EVALUATION, network::evaluate(bytes, shape, work, cell))
     }
+
+    fn evaluate_each(&self, bytes: &[u8], shape: &[u8], cells: &[u16], grades: &mut [u8], work: &mut [u8]) -> u32 {
+        answer(REFUSED, network::evaluate_each(bytes, shape, cells, grades, work))
+    }
 }

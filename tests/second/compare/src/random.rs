@@ -32,9 +32,11 @@ impl Random {
         from[self.below(from.len())]
     }
 
-    pub fn fill(&mut self, bytes: &mut [u8]) {
-        for chunk in bytes.chunks_mut(8) {
-            chunk.copy_from_slice(&self.next().to_le_bytes()[..chunk.len()]);
+    /// Puts a byte of noise in every place.
+    pub fn fill<T: From<u8>>(&mut self, places: &mut [T]) {
+        for chunk in places.chunks_mut(8) {
+            let noise = self.next().to_le_bytes();
+            chunk.iter_mut().zip(noise).for_each(|(place, byte)| *place = byte.into());
         }
     }
 }

@@ -9,6 +9,8 @@ use calls::tables::OwnedTable;
 const GATES: [Gate; 2] = [Gate::Max, Gate::Min];
 /// Values that a byte is changed to, beside its neighbours and noise.
 const WRONG: [u8; 9] = [0, 1, 2, 3, 4, 8, 9, 16, 255];
+/// How many numbers a list has: none, one, some, or several hundred.
+const LISTED: [usize; 4] = [0, 1, 9, 400];
 
 /// Everything that the tiny shapes have.
 pub fn tiny(session: &mut Session) -> Outcome<()> {
@@ -54,9 +56,8 @@ fn every_shape(session: &mut Session) -> Outcome<()> {
 /// and then longer than asked.
 fn whole_table(session: &mut Session, table: &OwnedTable) -> Outcome<()> {
     let cells = table.cells();
-    let mut longer = |asked: usize| asked + session.random.pick(&[0, 0, 0, 1, 17, 1000]);
-    let read_rooms = [10, cells, cells].map(&mut longer);
-    let rooms = compile_rooms(cells).map(&mut longer);
+    let read_rooms = [10, cells, cells].map(|asked| longer(asked, &mut session.random));
+    let rooms = compile_rooms(cells).map(|asked| longer(asked, &mut session.random));
     let bytes = table.file(|| session.random.once_in(2));
     session.read_back(&bytes, read_rooms, table)?;
     let (sparse, held) = table.without_dont_cares();
@@ -68,12 +69,43 @@ fn whole_table(session: &mut Session, table: &OwnedTable) -> Outcome<()> {
         let cell = if cells <= 8 { number } else { session.random.below(cells) };
         session.evaluate(&network, &table.shape, work, cell as u32)?;
     }
+    evaluate_lists(session, &network, &table.shape, work, cells)?;
     for (s, t) in some_sets(table.shape[0], &mut session.random) {
         for gate in GATES {
             both_blocks(session, table, Join { gate, s, t })?;
         }
     }
     Ok(())
+}
+
+fn longer(asked: usize, random: &mut Random) -> usize {
+    asked + random.pick(&[0, 0, 0, 1, 17, 1000])
+}
+
+/// Evaluates a network at lists of numbers, for a shape of so many cells, each into a buffer of grades that is now and
+/// then longer than asked.
+fn evaluate_lists(session: &mut Session, network: &[u8], shape: &[u8], work: usize, cells: usize) -> Outcome<()> {
+    for length in LISTED {
+        let list = some_list(cells, length, &mut session.random);
+        let grades = longer(length, &mut session.random);
+        session.evaluate_each(network, shape, &list, [grades, work])?;
+    }
+    Ok(())
+}
+
+/// A list of this length: numbers of cells, of cells that are in it already, and numbers that no cell has.
+fn some_list(cells: usize, length: usize, random: &mut Random) -> Vec<u16> {
+    let mut list: Vec<u16> = vec![];
+    while list.len() < length {
+        let number = match random.below(8) {
+            0 => random.pick(&[cells, cells + 1, 256, 1023, 1024, 65_535]) as u16,
+            1 => random.below(65_536) as u16,
+            2 | 3 if !list.is_empty() => random.pick(&list),
+            _ => random.below(cells) as u16,
+        };
+        list.push(number);
+    }
+    list
 }
 
 /// All pairs of sets of up to three conditions, a few of more.
@@ -198,16 +230,21 @@ fn damaged_networks(session: &mut Session) -> Outcome<()> {
                 network[at] = value;
                 let cell = session.random.below(cells) as u32;
                 session.evaluate(&network, &table.shape, count, cell)?;
+                evaluate_lists(session, &network, &table.shape, count, cells)?;
                 session.check(&network, &table, count)?;
             }
         }
         for length in 0..sound.len() {
             session.evaluate(&sound[..length], &table.shape, count, 0)?;
+            evaluate_lists(session, &sound[..length], &table.shape, count, cells)?;
             session.check(&sound[..length], &table, count)?;
         }
         for cell in [cells - 1, cells, cells + 1, 1024, 65_536, u32::MAX as usize] {
             session.evaluate(&sound, &table.shape, count, cell as u32)?;
         }
+        // Every number there is: one more than such a number can count.
+        let every: Vec<u16> = (0..=u16::MAX).collect();
+        session.evaluate_each(&sound, &table.shape, &every, [every.len(), count])?;
     }
     Ok(())
 }
@@ -252,6 +289,7 @@ fn lent_lengths(session: &mut Session) -> Outcome<()> {
             session.compile(&short, compile_rooms(cells))?;
             session.check(&network, &short, count)?;
             session.evaluate(&network, &short.shape, count, 0)?;
+            evaluate_lists(session, &network, &short.shape, count, cells)?;
         }
         for room in around(cells) {
             for gate in GATES {
@@ -269,6 +307,27 @@ fn lent_lengths(session: &mut Session) -> Outcome<()> {
         for work in around(count) {
             session.check(&network, &table, work)?;
             session.evaluate(&network, &table.shape, work, 0)?;
+        }
+        lent_lists(session, &network, &table)?;
+    }
+    Ok(())
+}
+
+/// Lists with every length of the two buffers that are written to, with a faulty shape or network, and with several of
+/// these faults at once.
+fn lent_lists(session: &mut Session, network: &[u8], table: &OwnedTable) -> Outcome<()> {
+    // As long as the sound ones, so that the lengths asked for are the same.
+    let (no_shape, no_network) = ([255; 10], vec![255; network.len()]);
+    for length in LISTED {
+        let list = some_list(table.cells(), length, &mut session.random);
+        for shape in [&table.shape[..], &no_shape] {
+            for network in [network, &no_network] {
+                for grades in around(length) {
+                    for work in around(network.len() / 16) {
+                        session.evaluate_each(network, shape, &list, [grades, work])?;
+                    }
+                }
+            }
         }
     }
     Ok(())
@@ -309,7 +368,8 @@ fn every_call(session: &mut Session, table: &OwnedTable, network: &[u8]) -> Outc
     session.compile(table, [work, room, depth])?;
     session.check(network, table, network.len() / 16)?;
     let cell = session.random.below(8) as u32;
-    session.evaluate(network, &table.shape, network.len() / 16, cell)
+    session.evaluate(network, &table.shape, network.len() / 16, cell)?;
+    evaluate_lists(session, network, &table.shape, network.len() / 16, 8)
 }
 
 /// Sets that overlap, are empty, or name conditions that are not there.
@@ -345,6 +405,7 @@ fn foreign_networks(session: &mut Session) -> Outcome<()> {
             let cell = session.random.below(table.cells() + 1);
             session.evaluate(&network, &table.shape, records, cell as u32)?;
         }
+        evaluate_lists(session, &network, &table.shape, records, table.cells())?;
     }
     Ok(())
 }

@@ -1,11 +1,11 @@
 //! Makes calls, each beside the oracle: the answer, every byte of every buffer, and the guards around them.
 
-use crate::lent::Lent;
+use crate::lent::{Lent, Returned};
 use crate::random::Random;
 use calls::tables::OwnedTable;
-use calls::{Calls, Gate, Limits, REFUSED, REFUSED_EVALUATION, Sets, Table};
+use calls::{Calls, Gate, Limits, NO_CELL, REFUSED, REFUSED_EVALUATION, Sets, Table};
 use oracle::network::Record;
-use oracle::{Answer, file, join, network, stages};
+use oracle::{Answer, file, join, network, refusal, stages};
 
 /// The error is a report of the first difference.
 pub type Outcome<T> = Result<T, String>;
@@ -62,7 +62,7 @@ fn cells_of(shape: &[u8]) -> usize {
 /// The table that the first three of some lent buffers make.
 fn table(lent: &[Lent; 3]) -> Table<'_> {
     let [shape, lower, upper] = lent;
-    Table { shape: shape.bytes(), lower: lower.bytes(), upper: upper.bytes() }
+    Table { shape: shape.held(), lower: lower.held(), upper: upper.held() }
 }
 
 impl<'a> Session<'a> {
@@ -81,7 +81,7 @@ impl<'a> Session<'a> {
         answer: u32,
         wanted: Answer<(u32, T)>,
         base: u32,
-        lent: &[&Lent],
+        lent: &[&dyn Returned],
     ) -> Outcome<Option<T>> {
         self.cases += 1;
         let (wanted, value) = match wanted {
@@ -114,8 +114,8 @@ impl<'a> Session<'a> {
             upper.expect(&read.upper);
             (0, OwnedTable { shape: read.shape.to_vec(), lower: read.lower, upper: read.upper })
         });
-        let limits = Limits { lower: lower.bytes_mut(), upper: upper.bytes_mut() };
-        let answer = self.calls.read(file.bytes(), shape.bytes_mut(), limits);
+        let limits = Limits { lower: lower.held_mut(), upper: upper.held_mut() };
+        let answer = self.calls.read(file.held(), shape.held_mut(), limits);
         self.settle("read", answer, wanted, REFUSED, &[&file, &shape, &lower, &upper])
     }
 
@@ -153,11 +153,11 @@ impl<'a> Session<'a> {
             upper.expect(&written[1]);
             (0, written)
         });
-        let limits = Limits { lower: lower.bytes_mut(), upper: upper.bytes_mut() };
+        let limits = Limits { lower: lower.held_mut(), upper: upper.held_mut() };
         let sets = Sets { s: join.s, t: join.t };
         let answer = match first {
             None => self.calls.join_first(join.gate, table(&lent), sets, limits),
-            Some(_) => self.calls.join_second(join.gate, table(&lent), sets, block.bytes(), limits),
+            Some(_) => self.calls.join_second(join.gate, table(&lent), sets, block.held(), limits),
         };
         let call = format!("{} block of {join:?}", if first.is_some() { "second" } else { "first" });
         let [shape, table_lower, table_upper] = &lent;
@@ -196,7 +196,7 @@ impl<'a> Session<'a> {
             work.leave_free(16 * cells_of(&given.shape));
             (answer, (answer, bytes))
         });
-        let answer = call(self.calls, table(&lent), work.bytes_mut(), to.bytes_mut());
+        let answer = call(self.calls, table(&lent), work.held_mut(), to.held_mut());
         let [shape, lower, upper] = &lent;
         self.settle(name, answer, wanted, REFUSED, &[shape, lower, upper, &work, &to])
     }
@@ -211,7 +211,7 @@ impl<'a> Session<'a> {
             (outside.map_or(0, |(cell, grade)| 1 + 16 * cell as u32 + grade as u32), ())
         });
         let network = Lent::holding("network", network, &mut self.random);
-        let answer = self.calls.check(network.bytes(), table(&lent), work.bytes_mut());
+        let answer = self.calls.check(network.held(), table(&lent), work.held_mut());
         let [shape, lower, upper] = &lent;
         self.settle("check", answer, wanted, REFUSED, &[&network, shape, lower, upper, &work]).map(|_| ())
     }
@@ -226,8 +226,51 @@ impl<'a> Session<'a> {
         });
         let network = Lent::holding("network", network, &mut self.random);
         let shape = Lent::holding("shape", shape, &mut self.random);
-        let answer = self.calls.evaluate(network.bytes(), shape.bytes(), work.bytes_mut(), cell);
+        let answer = self.calls.evaluate(network.held(), shape.held(), work.held_mut(), cell);
         let call = format!("evaluate at cell {cell}");
         self.settle(&call, answer, wanted, REFUSED_EVALUATION, &[&network, &shape, &work]).map(|_| ())
+    }
+
+    /// Evaluates a network at each cell of a list, with a grades and a work buffer of these lengths; the grades.
+    pub fn evaluate_each(
+        &mut self,
+        network: &[u8],
+        shape: &[u8],
+        cells: &[u16],
+        rooms: [usize; 2],
+    ) -> Outcome<Option<Vec<u8>>> {
+        let random = &mut self.random;
+        let mut grades = Lent::noise("grades", rooms[0], random);
+        let mut work = Lent::noise("work", rooms[1], random);
+        let wanted = network::evaluate_each(network, shape, cells, rooms[0], rooms[1]).map(|each| {
+            grades.expect(&each);
+            // A list of no cells leaves the work buffer as it is.
+            work.leave_free(if cells.is_empty() { 0 } else { network.len() / 16 });
+            (0, each)
+        });
+        let network = Lent::holding("network", network, random);
+        let shape = Lent::holding("shape", shape, random);
+        let cells = Lent::holding("cells", cells, random);
+        let answer =
+            self.calls.evaluate_each(network.held(), shape.held(), cells.held(), grades.held_mut(), work.held_mut());
+        let each =
+            self.settle("evaluate each", answer, wanted, REFUSED, &[&network, &shape, &cells, &grades, &work])?;
+        if let Some(each) = &each {
+            self.hold_to_single_calls(network.held(), shape.held(), cells.held(), each)?;
+        }
+        Ok(each)
+    }
+
+    /// Holds the grades of a list of cells to what a single call answers for each.
+    fn hold_to_single_calls(&self, network: &[u8], shape: &[u8], cells: &[u16], each: &[u8]) -> Outcome<()> {
+        let mut work = vec![0; network.len() / 16];
+        for (&cell, &grade) in cells.iter().zip(each) {
+            let single = self.calls.evaluate(network, shape, &mut work, cell as u32);
+            let wanted = if grade == NO_CELL { REFUSED_EVALUATION + refusal::CELL_NUMBER } else { grade as u32 };
+            if single != wanted {
+                return Err(format!("case {}: cell {cell}: {grade} in a list, {single} from one call", self.cases));
+            }
+        }
+        Ok(())
     }
 }

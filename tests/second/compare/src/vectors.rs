@@ -182,11 +182,18 @@ fn holds(session: &mut Session, table: &OwnedTable, network: &[u8], fact: &Fact)
     }
 }
 
-/// Forecasts, compiles and checks a table; its network.
+/// Forecasts, compiles and checks a table, and evaluates its network at every cell, in one list; the network.
 fn compile(session: &mut Session, table: &OwnedTable) -> Outcome<Vec<u8>> {
-    let network = session.compile(table, compile_rooms(table.cells()))?.unwrap_or_default();
+    let cells = table.cells();
+    let network = session.compile(table, compile_rooms(cells))?.unwrap_or_default();
     session.check(&network, table, network.len() / 16)?;
-    Ok(network)
+    let every: Vec<u16> = (0..cells as u16).collect();
+    let grades = session.evaluate_each(&network, &table.shape, &every, [cells, network.len() / 16])?;
+    let within = |cell: usize, grade: u8| (table.lower[cell]..=table.upper[cell]).contains(&grade);
+    match grades {
+        Some(grades) if grades.iter().enumerate().all(|(cell, &grade)| within(cell, grade)) => Ok(network),
+        grades => Err(format!("grades {grades:?} of {table:?}")),
+    }
 }
 
 /// Reads a table's files: with every cell, which gives the table back, and without its don't-cares. Of these: how many

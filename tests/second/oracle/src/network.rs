@@ -92,6 +92,16 @@ pub fn evaluate(network: &[u8], shape: &[u8], work: usize, cell: u32) -> Answer<
     Ok(grade(&records, 0, cell))
 }
 
+/// Evaluation at each cell of a list, with buffers of these lengths: the grades of all cells of the shape, and of them
+/// those of the list; 255 where there is no such cell.
+pub fn evaluate_each(network: &[u8], shape: &[u8], cells: &[u16], grades: usize, work: usize) -> Answer<Vec<u8>> {
+    let shape = Shape::from_bytes(shape)?;
+    stop_if(work < network.len() / 16 || grades < cells.len(), refusal::SHORT_BUFFER)?;
+    let records = records(network, &shape)?;
+    let all: Vec<u8> = shape.cells().into_iter().map(|cell| grade(&records, 0, cell)).collect();
+    Ok(cells.iter().map(|&number| *all.get(number as usize).unwrap_or(&255)).collect())
+}
+
 /// The first cell outside the limits and the grade there; none when the network is within.
 pub fn check(network: &[u8], shape: &[u8], lower: &[u8], upper: &[u8], work: usize) -> Answer<Option<(usize, u8)>> {
     let shape = Shape::from_bytes(shape)?;

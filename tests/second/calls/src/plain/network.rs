@@ -1,8 +1,8 @@
 //! Evaluating and checking: a scan of all records, then a run over them for each cell.
 
-use super::shape::Shape;
+use super::shape::{MOST_CELLS, Shape};
 use super::{Answer, refuse_if};
-use crate::Table;
+use crate::{NO_CELL, Table};
 
 const RECORD: usize = 16;
 const MOST_RECORDS: usize = 4096;
@@ -61,6 +61,25 @@ pub fn evaluate(network: &[u8], shape: &[u8], work: &mut [u8], cell: u32) -> Ans
     judge(network, &shape)?;
     refuse_if(cell as usize >= shape.cells, 12)?;
     Ok(grade(network, &shape, work, cell as usize) as u32)
+}
+
+pub fn evaluate_each(network: &[u8], shape: &[u8], cells: &[u16], grades: &mut [u8], work: &mut [u8]) -> Answer<u32> {
+    let shape = Shape::from_bytes(shape)?;
+    refuse_if(work.len() < network.len() / RECORD || grades.len() < cells.len(), 10)?;
+    judge(network, &shape)?;
+    // The grade of each cell that has been run, so that none is run again; for the others what no grade can be.
+    let mut known = [NO_CELL; MOST_CELLS];
+    let known = &mut known[..shape.cells];
+    for (to, &cell) in grades.iter_mut().zip(cells) {
+        let cell = cell as usize;
+        *to = known.get_mut(cell).map_or(NO_CELL, |known| {
+            if *known == NO_CELL {
+                *known = grade(network, &shape, work, cell);
+            }
+            *known
+        });
+    }
+    Ok(0)
 }
 
 pub fn check(network: &[u8], table: Table, work: &mut [u8]) -> Answer<u32> {
