@@ -18,7 +18,7 @@ use Rattle.rules.specs.Demands.{Table, Between, compiledRecords}
 use Rattle.rules.specs.Tree.{size}
 use Rattle.rules.specs.Stage.{compiled}
 use Rattle.rules.specs.CompileCall.{mostRecords, tableRoom, compileRoom, lentLimits}
-use Rattle.laws.proofs.AcceptLaws.{places-positive, few-cells, accepted-table}
+use Rattle.laws.proofs.AcceptLaws.{places-positive, accepted-table}
 use Rattle.laws.proofs.CellLaws.{cells-pos}
 use Rattle.laws.proofs.ByteLaws.{length-networkBytes, past-same}
 use Rattle.laws.proofs.CompiledLaws.{compiled-all}
@@ -29,7 +29,7 @@ use Rattle.laws.proofs.SizeLaws.{compiled-size}
 use Rattle.laws.proofs.VerdictLaws.{row-passed}
 use Rattle.shape.specs.declared.Shape.{Shape}
 use Rattle.shape.specs.Shapes.{cardsOf, placesOf, isSound}
-use Rattle.shape.proofs.ShapeLaws.{eight-cards}
+use Rattle.shape.proofs.ShapeLaws.{eight-cards, sound-shape}
 use Rattle.stage_steps.specs.declared.gates.Extent.{Extent}
 use Rattle.compile.specs.declared.Judged.the-variants as judged
 use Rattle.compile.specs.declared.CompileAnswer.the-variants.{Records, Refused}
@@ -81,7 +81,7 @@ limits-row ks lower upper m =
 pub cells-between : (shape : Shape) (n : ℕ) → n ≡ cells (placesOf shape) → isSound shape ≡ true → (1 ≤ n) × (n ≤ 1024)
 cells-between shape n e h = (
   omega (arith, cells-pos (placesOf shape) (places-positive (cardsOf shape))),
-  omega (arith, few-cells (shape .n) (cardsOf shape) (shape .m) (eight-cards shape) (passes h)),
+  omega (arith, sound-shape shape h .cells-few),
 )
 
 module _ (shape : Shape) (lower upper : List ℕ) (work network : ℕ) where

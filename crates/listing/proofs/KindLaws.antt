@@ -10,11 +10,9 @@ use Rattle.rules.specs.declared.Gate.the-variants.{Min, Max}
 use Rattle.rules.specs.Bytes.{at, tabulate, word}
 use Rattle.rules.specs.Cell.{card}
 use Rattle.rules.specs.Network.{constant, literal, gate, recordOf}
-use Rattle.laws.proofs.AcceptLaws.{few-values}
-use Rattle.laws.proofs.TestLaws.{passes}
 use Rattle.shape.specs.declared.Shape.{Shape}
-use Rattle.shape.specs.Shapes.{cardsOf, placesOf, isSound}
-use Rattle.shape.proofs.ShapeLaws.{eight-cards}
+use Rattle.shape.specs.Shapes.{placesOf, isSound}
+use Rattle.shape.proofs.ShapeLaws.{sound-shape}
 use Rattle.listing.specs.Putting.{gradeBytes}
 
 module _ (ks r : List ℕ) where
@@ -40,4 +38,4 @@ module _ (ks r : List ℕ) where
 
 -- no condition has more than eight values
 pub few : (shape : Shape) → isSound shape ≡ true → (i : ℕ) → card (placesOf shape) i ≤ 8
-few shape h = few-values (shape .n) (cardsOf shape) (shape .m) (eight-cards shape) (passes h)
+few shape h = sound-shape shape h .values-few

@@ -2,7 +2,7 @@
 use Prim.Native.Nat.{ℕ, _/_, _≤_, _<_}
 use mathlib.Core.Path.{_≡_, refl, sym, _∙_, ap, subst}
 use mathlib.Core.Bool.{Bool, true, false, _&&_}
-use mathlib.Core.List.{List, [], _++_, map}
+use mathlib.Core.List.{List, [], _∷_, _++_, map}
 use native.Mathlib.Omega.{arith}
 use borrow.Author.Tests.{lt-ltb, le-leb}
 use lib.Dec.{leb, ltb}
@@ -15,14 +15,13 @@ use Rattle.rules.specs.Verdict.{Verdict, accepted, refused, unless, answerOf}
 use Rattle.rules.specs.Network.{networkSound, evaluate}
 use Rattle.rules.specs.NetworkCalls.{evaluateCall}
 use Rattle.rules.specs.Visits.{noCell, visitByte, byteVerdict}
-use Rattle.laws.proofs.TestLaws.{passes, and-true}
+use Rattle.laws.proofs.TestLaws.{and-true}
 use Rattle.laws.proofs.TableLaws.{at-map}
-use Rattle.laws.proofs.AcceptLaws.{few-grades}
-use Rattle.laws.proofs.VerdictLaws.{refused-accepted, accepted-same, refused-same, row-pass, row-passed, same-stop}
+use Rattle.laws.proofs.VerdictLaws.{refused-accepted, accepted-same, row-pass, row-passed, same-stop}
 use Rattle.laws.proofs.ByteLaws.{past-same}
 use Rattle.shape.specs.declared.Shape.{Shape}
 use Rattle.shape.specs.Shapes.{cardsOf, placesOf, isSound}
-use Rattle.shape.proofs.ShapeLaws.{eight-cards}
+use Rattle.shape.proofs.ShapeLaws.{sound-shape}
 use Rattle.network_run.proofs.BelowLaws.{grade-below}
 use Rattle.network_visits.specs.Visiting.{VisitedEach}
 use Rattle.network.specs.declared.EachAnswer.{EachAnswer}
@@ -43,6 +42,12 @@ was-refused (refused q) e = ap refused cc
 each-means : (v : Verdict (List ℕ)) → eachMeans (eachAnswer v) ≡ answerOf (λ bytes. []) v
 each-means (accepted bytes) = refl
 each-means (refused r) = refl
+
+-- with no number there is no byte
+none-after : (f : ℕ → ℕ) (visits grades : List ℕ) → length visits ≡ 0 → (v : Verdict (List ℕ)) → ((bytes : List ℕ) → v ≡ accepted bytes → map f visits ≡ bytes) → gradesAfter v grades ≡ grades
+none-after f [] grades e (accepted bytes) is = sym (ap (λ (b : List ℕ). b ++ drop (length b) grades) (is bytes refl))
+none-after f (x ∷ visits) grades e (accepted bytes) is = absurd (omega arith)
+none-after f visits grades e (refused r) is = refl
 
 -- a byte says what the row of the cell number does
 byte-says : (b : Bool) (q : ℕ) → q < noCell → unless b CellNumber (accepted q) ≡ byteVerdict (pick b q noCell)
@@ -86,7 +91,7 @@ module _ (shape : Shape) (net visits grades work : List ℕ) where
       pub each-single : (w : ℕ) → length net / 16 ≤ w → single w (at visits i) ≡ byteVerdict (at (gradesAfter rows grades) i)
       each-single w room =
           let low : evaluate ks net (at visits i) < noCell =
-          omega (arith, grade-below shape net sound network (at visits i), few-grades (shape .n) (cardsOf shape) (shape .m) (eight-cards shape) (passes sound)) in
+          omega (arith, grade-below shape net sound network (at visits i), sound-shape shape sound .grades-few) in
           row-pass ShapeRange _ sound ∙ row-pass ShortBuffer _ (le-leb (length net / 16) w room) ∙ row-pass Network _ network
           ∙ byte-says (ltb (at visits i) (cells ks)) (evaluate ks net (at visits i)) low ∙ ap byteVerdict (sym at-place)
 
@@ -114,7 +119,7 @@ module _ (shape : Shape) (net visits grades work : List ℕ) where
             found .answers ∙ each-single (was-accepted rows (sym e ∙ a) .1) i h (length w) room ∙ ap (λ (g : List ℕ). byteVerdict (at g i)) (sym after);
         stops-as-single = λ r a room cell w′ s found. found .answers ∙ stops-single (was-refused rows (sym e ∙ a)) room cell;
         refusal-keeps = keeps;
-        none-keeps = none;
+        none-keeps = λ h. (after ∙ none-after (visitByte ks net) visits grades h rows (λ bytes u. bytes-are u), none h);
         kept = kept;
       }
 

@@ -38,8 +38,8 @@ module _ (shape : Shape) (net visits grades work : List ℕ) where
   abbrev verdict : Verdict (List ℕ)
   verdict = eachRows net visits grades work shape
 
-  -- the answer and every byte of the output buffer, by these rows; a refusal, and a list with no number, leaves the work buffer too, and
-  -- nothing changes its length or its bytes past one for each record
+  -- the answer and every byte of the output buffer, by these rows; a refusal leaves the work buffer too, a list with no number changes nothing,
+  -- and of the work buffer its length and its bytes past one for each record stay
   pub record EvaluatedEach (answer : EachAnswer) (grades′ work′ : List ℕ) : Type 0 where
     pub answer-is : answer ≡ eachAnswer verdict
     pub means : eachMeans answer ≡ answerOf (λ bytes. []) verdict
@@ -53,5 +53,5 @@ module _ (shape : Shape) (net visits grades work : List ℕ) where
     pub stops-as-single : (r : Refusal) → answer ≡ answers.Refused r → length visits ≤ length grades → (cell : ℕ) (w′ : List ℕ) (single : Evaluation)
         → Evaluated shape net cell work w′ single → evaluationVerdict single ≡ refused r
     pub refusal-keeps : (r : Refusal) → answer ≡ answers.Refused r → work′ ≡ work
-    pub none-keeps : length visits ≡ 0 → work′ ≡ work
+    pub none-keeps : length visits ≡ 0 → (grades′ ≡ grades) × (work′ ≡ work)
     pub kept : Past (length net / 16) work work′

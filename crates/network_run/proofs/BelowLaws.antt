@@ -11,12 +11,11 @@ use Rattle.rules.specs.declared.Gate.the-variants.{Min, Max}
 use Rattle.rules.specs.Bytes.{at, word, recordAt}
 use Rattle.rules.specs.Cell.{card, present, value}
 use Rattle.rules.specs.Network.{Record, gate, recordOf, recordsFrom, networkRecords, recordGrade, run, literalByteSound, recordSound, networkSound, evaluate}
-use Rattle.laws.proofs.AcceptLaws.{two-grades, few-values}
-use Rattle.laws.proofs.TestLaws.{and-r, cond-ok, passes, passed, failed}
+use Rattle.laws.proofs.TestLaws.{and-r, cond-ok, passed, failed}
 use Rattle.laws.proofs.TableLaws.{all-at, tabulate-from-below}
 use Rattle.shape.specs.declared.Shape.{Shape}
-use Rattle.shape.specs.Shapes.{cardsOf, placesOf, isSound}
-use Rattle.shape.proofs.ShapeLaws.{eight-cards}
+use Rattle.shape.specs.Shapes.{placesOf, isSound}
+use Rattle.shape.proofs.ShapeLaws.{sound-shape}
 use Rattle.network_scan.proofs.SoundLaws.{gradesSound}
 use Rattle.network_run.proofs.ReadLaws.{last-test, each-sound}
 
@@ -70,6 +69,4 @@ module _ (m : ℕ) (some : 0 < m) where
 module _ (shape : Shape) (net : List ℕ) (sound : isSound shape ≡ true) (network : networkSound (placesOf shape) (shape .m) net ≡ true) where
   pub grade-below : (cell : ℕ) → evaluate (placesOf shape) net cell < shape .m
   grade-below cell =
-      let eight = eight-cards shape in
-      evaluate-below (shape .m) (omega (arith, two-grades (shape .n) (cardsOf shape) (shape .m) eight (passes sound))) (placesOf shape) net cell
-      (few-values (shape .n) (cardsOf shape) (shape .m) eight (passes sound)) network
+      let s = sound-shape shape sound in evaluate-below (shape .m) (omega (arith, s .grades-two)) (placesOf shape) net cell (s .values-few) network

@@ -13,10 +13,9 @@ use Rattle.rules.specs.Network.{recordSound, networkSound, maxRecords}
 use Rattle.laws.proofs.TestLaws.{and-l, and-r, passes}
 use Rattle.laws.proofs.TableLaws.{all-at}
 use Rattle.laws.proofs.CellLaws.{present-lt, value-lt}
-use Rattle.laws.proofs.AcceptLaws.{few-values}
 use Rattle.shape.specs.declared.Shape.{Shape}
-use Rattle.shape.specs.Shapes.{cardsOf, placesOf}
-use Rattle.shape.proofs.ShapeLaws.{eight-cards, eight-places, shape-positive}
+use Rattle.shape.specs.Shapes.{placesOf}
+use Rattle.shape.proofs.ShapeLaws.{eight-places, shape-positive, sound-shape}
 use Rattle.network_run.specs.Grades.{Readable, Ready}
 use Rattle.network_scan.proofs.SoundLaws.{literalSound, gradesSound, gateSound, bytesSound, record-by}
 use Rattle.laws.proofs.RecordLaws.{record-length}
@@ -69,7 +68,7 @@ module _ (shape : Shape) (net work : List ℕ) (y : Ready shape net work) where
   value-low cell i = value-lt (placesOf shape) cell i (shape-positive shape)
 
   card-low : (i : ℕ) → card (placesOf shape) i ≤ 8
-  card-low = few-values (shape .n) (cardsOf shape) (shape .m) (eight-cards shape) (passes (y .shape-sound))
+  card-low = sound-shape shape (y .shape-sound) .values-few
 
   pub readable : (cell k : ℕ) (values done : List ℕ) → k < length net / 16 → ((i : ℕ) → at values i ≡ value (placesOf shape) cell i) → length done ≡ k → Readable values done (recordAt net k)
   readable cell k values done l same e =

@@ -1,5 +1,4 @@
 // The grades of a sound network at each cell of a list.
-ghost use mathlib.Core.Path.{_≡_};
 ghost use Rattle.network_visits.specs.Visiting.{Visitable, Visited, ListReady, VisitedEach};
 use shape::Shape;
 

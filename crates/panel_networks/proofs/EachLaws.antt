@@ -62,7 +62,7 @@ module _ (net bytes visits grades work : List ℕ) where
     after-rows : length bytes ≡ 10 → gradesAfter (rows (lentShape bytes)) grades ≡ grades′
     after-rows ten = sym (after ∙ ap (λ (v : Verdict (List ℕ)). gradesAfter v grades) (ten-lent bytes rows ten))
 
-    promised : {work′ : List ℕ} → (65536 ≤ r → work′ ≡ work) → (length visits ≡ 0 → work′ ≡ work) → Past (length net / 16) work work′ → EvaluatesEach net bytes visits grades work r grades′ work′
+    promised : {work′ : List ℕ} → (65536 ≤ r → work′ ≡ work) → (length visits ≡ 0 → (grades′ ≡ grades) × (work′ ≡ work)) → Past (length net / 16) work work′ → EvaluatesEach net bytes visits grades work r grades′ work′
     promised refusal none kept =
         record {
           answer = number;
@@ -96,4 +96,4 @@ module _ (net bytes visits grades work : List ℕ) where
   pub each-refuses : (q : Refusal) (r : ℕ) → shapeOfBytes bytes ≡ refused q → r ≡ 65536 + refusalNumber q → EvaluatesEach net bytes visits grades work r grades work
   each-refuses q r e number =
       let same : refused q ≡ lent bytes rows = sym (lent-refused bytes e rows (λ y u. rw u)) in
-      promised (number ∙ ap (λ (v : Verdict (List ℕ)). callNumber v (λ written. 0)) same) (ap (λ (v : Verdict (List ℕ)). gradesAfter v grades) same) (λ h. refl) (λ h. refl) past-same
+      promised (number ∙ ap (λ (v : Verdict (List ℕ)). callNumber v (λ written. 0)) same) (ap (λ (v : Verdict (List ℕ)). gradesAfter v grades) same) (λ h. refl) (λ h. (refl, refl)) past-same

@@ -15,8 +15,8 @@ module _ (net bytes visits grades work : List ℕ) where
   abbrev verdict : Verdict (List ℕ)
   verdict = lent bytes (eachRows net visits grades work)
 
-  -- the answer and every byte of the grades' buffer, by the rows of request 3; a refusal, and a list with no number, leaves the work buffer
-  -- too, and nothing changes its length or its bytes past one for each whole sixteen of the network
+  -- the answer and every byte of the grades' buffer, by the rows of request 3; a refusal leaves the work buffer too, a list with no number changes
+  -- nothing, and of the work buffer its length and its bytes past one for each whole sixteen of the network stay
   pub record EvaluatesEach (r : ℕ) (grades′ work′ : List ℕ) : Type 0 where
     pub answer : r ≡ callNumber verdict (λ written. 0)
     pub grades-after : grades′ ≡ gradesAfter verdict grades
@@ -29,5 +29,5 @@ module _ (net bytes visits grades work : List ℕ) where
     pub stops-as-single : 65536 ≤ r → length visits ≤ length grades → (cell : ℕ) (w′ : List ℕ) (single : ℕ)
         → Evaluates net bytes cell work w′ single → single ≡ 256 + (r - 65536)
     pub refusal-keeps : 65536 ≤ r → work′ ≡ work
-    pub none-keeps : length visits ≡ 0 → work′ ≡ work
+    pub none-keeps : length visits ≡ 0 → (grades′ ≡ grades) × (work′ ≡ work)
     pub kept : Past (length net / 16) work work′

@@ -1,5 +1,5 @@
 -- A shape's places: eight, none of cardinality 0.
-use Prim.Native.Nat.{ℕ, _+_}
+use Prim.Native.Nat.{ℕ, _+_, _≤_}
 use mathlib.Core.Path.{_≡_, refl, sym, _∙_, ap, subst}
 use mathlib.Core.Bool.{Bool, true, false, cond, _&&_}
 use borrow.Author.Tests.{eq-eqb, ne-eqb}
@@ -11,12 +11,13 @@ use lib.Seq.{getD-take, getD-drop}
 use Rattle.rules.specs.declared.Refusal.{Refusal}
 use Rattle.rules.specs.declared.Refusal.the-variants.{ShapeRange}
 use Rattle.rules.specs.Bytes.{at, all, tabulate}
-use Rattle.rules.specs.Cell.{Positive, cells}
+use Rattle.rules.specs.Cell.{Positive, cells, card}
 use Rattle.rules.specs.Shape.{maxConditions, maxGrades, maxCells, placeSound, shapeSound}
 use Rattle.rules.specs.Verdict.{Verdict, accepted, refused, answerOf}
 use Rattle.laws.proofs.VerdictLaws.{row-pass, row-stop}
 use Rattle.laws.proofs.TableLaws.{tabulate-self, tabulate-same}
-use Rattle.laws.proofs.AcceptLaws.{places-positive, length-places}
+use Rattle.laws.proofs.AcceptLaws.{places-positive, length-places, few-values, few-cells, two-grades, few-grades}
+use Rattle.laws.proofs.TestLaws.{passes}
 use Rattle.shape.specs.declared.Shape.{Shape}
 use Rattle.shape.specs.declared.ShapeAnswer.{ShapeAnswer}
 use Rattle.shape.specs.declared.ShapeAnswer.the-variants.{Accepted, Refused}
@@ -52,6 +53,23 @@ eight-places s = length-places (cardsOf s) ∙ eight-cards s
 
 pub shape-positive : (s : Shape) → Positive (placesOf s)
 shape-positive s = places-positive (cardsOf s)
+
+-- a shape that row 4 lets pass
+pub record Sound (s : Shape) : Type 0 where
+  pub values-few : (i : ℕ) → card (placesOf s) i ≤ 8
+  pub cells-few : cells (placesOf s) ≤ 1024
+  pub grades-two : 2 ≤ s .m
+  pub grades-few : s .m ≤ 16
+
+pub sound-shape : (s : Shape) → isSound s ≡ true → Sound s
+sound-shape s e =
+    let h = passes e in
+    record {
+      values-few = few-values (s .n) (cardsOf s) (s .m) (eight-cards s) h;
+      cells-few = few-cells (s .n) (cardsOf s) (s .m) (eight-cards s) h;
+      grades-two = two-grades (s .n) (cardsOf s) (s .m) (eight-cards s) h;
+      grades-few = few-grades (s .n) (cardsOf s) (s .m) (eight-cards s) h;
+    }
 
 -- row 4, test by test
 module _ (s : Shape) where

@@ -1,29 +1,20 @@
 -- `network_visits::grade_each` meets its contract.
--- Assumes nothing.
-use mathlib.Core.Path.{_≡_, refl, sym, ap, subst, _∙_}
-use mathlib.Core.List.{List, [], _∷_, _++_}
-use mathlib.Core.Logic.{⊎-elim}
-use Prim.Native.Nat.{ℕ, _+_, _-_, _*_, _/_, _%_, _≤_, _<_}
+use mathlib.Core.Path.{_≡_, refl}
+use Prim.Native.Nat.{_-_, _/_, _≤_}
 use native.Mathlib.Nat.{zero-add}
 use native.Mathlib.Omega.{arith}
-use lib.ListN.{length, getD, take, drop, set, length-set, length-take, length-drop}
+use lib.ListN.{length}
 use Rattle.rules.specs.Bytes.{at, Past}
 use Rattle.rules.specs.Visits.{visitByte}
-use Rattle.shape.specs.Shapes.{cardsOf, placesOf}
-use Rattle.tables.proofs.PartLaws.{Filled, filled-none, filled-more}
 use Rattle.laws.proofs.ByteLaws.{past-same, past-then}
-use Rattle.laws.proofs.AcceptLaws.{few-cells}
-use Rattle.laws.proofs.TestLaws.{passes}
-use Rattle.shape.proofs.ShapeLaws.{eight-cards}
+use Rattle.tables.proofs.PartLaws.{Filled, filled-none, filled-more}
+use Rattle.shape.specs.Shapes.{placesOf}
+use Rattle.shape.proofs.ShapeLaws.{sound-shape}
 use Rattle.network_visits.specs.Visiting.{Known}
 use Rattle.network_visits.proofs.VisitLaws.{known-none, visited-all}
 use borrow.Author.Needs.{needs}
 use Rattle.network_visits.proofs.grade_each.Statement.{statement}
 use Rattle.network_visits.proofs.grade_each.Tie as tie
-use Rattle.network_visits.proofs.grade_each.Reads as reads
-use Rattle.network_visits.proofs.grade_each.Lts as lts
-use Rattle.network_visits.proofs.visit.Reads as visit-reads
-use Rattle.shape.proofs.Shape.cells.Reads as cells-reads
 
 abbrev Inv-loop : tie.InvT-loop
 Inv-loop network shape cells grades₀ work₀ count visits known₀ i₀ grades work known i =
@@ -43,7 +34,7 @@ loop-holds : tie.Need-loop-holds Inv-loop μ-loop
 loop-holds c =
     let start = c .before .before .before .before .before in
     let shape = start .args .shape in
-    (search needs, filled-none _ _ _, known-none (placesOf shape) (start .args .network .now) (few-cells (shape .n) (cardsOf shape) (shape .m) (eight-cards shape) (passes (start .pre .ready .shape-sound))), past-same, λ e. refl)
+    (search needs, filled-none _ _ _, known-none (placesOf shape) (start .args .network .now) (sound-shape shape (start .pre .ready .shape-sound) .cells-few), past-same, λ e. refl)
 
 mul-cell : tie.Need-mul-cell Inv-loop μ-loop
 mul-cell c = search needs

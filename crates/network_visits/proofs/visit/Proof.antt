@@ -1,15 +1,11 @@
 -- `network_visits::visit` meets its contract.
-use mathlib.Core.Path.{_≡_}
-use Prim.Native.Nat.{_≤_, _<_}
+use Prim.Native.Nat.{_<_}
 use native.Mathlib.Omega.{arith}
 use Rattle.rules.specs.Cell.{cells}
-use Rattle.laws.proofs.AcceptLaws.{few-cells}
-use Rattle.laws.proofs.TestLaws.{passes}
 use Rattle.laws.proofs.ByteLaws.{past-same}
-use Rattle.shape.specs.Shapes.{cardsOf, placesOf}
-use Rattle.shape.proofs.ShapeLaws.{eight-cards}
+use Rattle.shape.specs.Shapes.{placesOf}
+use Rattle.shape.proofs.ShapeLaws.{sound-shape}
 use Rattle.network_visits.proofs.VisitLaws.{no-cell, at-cell, known-right, known-more}
-use borrow.Author.Needs.{needs}
 use Rattle.network_visits.proofs.visit.Statement.{statement}
 use Rattle.network_visits.proofs.visit.Tie as tie
 
@@ -29,9 +25,7 @@ here c = omega (arith, c .before .before .before .pre .counted, c .if1 .left)
 
 low : (c : tie.Else1) → c .before .before .before .args .cell < 1024
 low c =
-    let start = c .before .before .before in
-    let shape = start .args .shape in
-    omega (arith, here c, few-cells (shape .n) (cardsOf shape) (shape .m) (eight-cards shape) (passes (start .pre .ready .shape-sound)))
+    let start = c .before .before .before in omega (arith, here c, sound-shape (start .args .shape) (start .pre .ready .shape-sound) .cells-few)
 
 element-copy-out-before : tie.Need-element-copy-out-before
 element-copy-out-before c = low c
