@@ -31,7 +31,7 @@ pub row-passed : {A : Type 0} (b : Bool) (q : Refusal) (v : Verdict A) {x : A} �
 row-passed true q v e = (refl, e)
 row-passed false q v e = refused-accepted e
 
--- a row above one that stops the call stops it in the same way, whatever would come below that
+-- two calls with the same row: where what is below it stops both alike, so does the row with what is below it
 pub same-stop : {A B : Type 0} (b : Bool) (q : Refusal) {v : Verdict A} {w : Verdict B} {r : Refusal} → (v ≡ refused r → w ≡ refused r) → unless b q v ≡ refused r → unless b q w ≡ refused r
 same-stop true q f e = f e
 same-stop false q f e = ap refused (refused-same e)

@@ -107,17 +107,17 @@ module _ (shape : Shape) (net visits grades work : List ℕ) where
       e
 
   -- the promise, of an answer by the rows
-  each-by-rows : {answer : EachAnswer} {grades′ work′ : List ℕ} → answer ≡ eachAnswer rows → grades′ ≡ gradesAfter rows grades → ((r : Refusal) → answer ≡ Refused r → work′ ≡ work)
-      → (length visits ≡ 0 → work′ ≡ work) → Past (length net / 16) work work′ → EvaluatedEach shape net visits grades work answer grades′ work′
+  each-by-rows : {r : EachAnswer} {grades′ work′ : List ℕ} → r ≡ eachAnswer rows → grades′ ≡ gradesAfter rows grades → ((q : Refusal) → r ≡ Refused q → work′ ≡ work)
+      → (length visits ≡ 0 → work′ ≡ work) → Past (length net / 16) work work′ → EvaluatedEach shape net visits grades work r grades′ work′
   each-by-rows e after keeps none kept =
       record {
-        answer-is = e;
+        answer = e;
         means = ap eachMeans e ∙ each-means rows;
         grades-after = after;
         grade-means = λ a i h l. subst (λ (g : List ℕ). GradeAt shape net (at visits i) (at g i)) (sym after) (each-grade (was-accepted rows (sym e ∙ a) .1) i h l);
         as-single = λ a i h w w′ s room found.
             found .answers ∙ each-single (was-accepted rows (sym e ∙ a) .1) i h (length w) room ∙ ap (λ (g : List ℕ). byteVerdict (at g i)) (sym after);
-        stops-as-single = λ r a room cell w′ s found. found .answers ∙ stops-single (was-refused rows (sym e ∙ a)) room cell;
+        stops-as-single = λ q a room cell w′ s found. found .answers ∙ stops-single (was-refused rows (sym e ∙ a)) room cell;
         refusal-keeps = keeps;
         none-keeps = λ h. (after ∙ none-after (visitByte ks net) visits grades h rows (λ bytes u. bytes-are u), none h);
         kept = kept;

@@ -18,17 +18,17 @@ use Rattle.network.specs.Evaluating.{evaluationVerdict, GradeAt, Evaluat
 -- the answer to a verdict
 abbrev pub eachAnswer : Verdict (List ℕ) → EachAnswer
 eachAnswer (accepted bytes) = answers.Grades
-eachAnswer (refused r) = answers.Refused r
+eachAnswer (refused q) = answers.Refused q
 
 -- what it says in 01's numbers; the bytes themselves are in the output buffer
 abbrev pub eachMeans : EachAnswer → Answer
 eachMeans answers.Grades = granted []
-eachMeans (answers.Refused r) = denied r
+eachMeans (answers.Refused q) = denied q
 
 -- the output buffer after it: a byte for each number and what lay behind them, or all as it was
 abbrev pub gradesAfter : Verdict (List ℕ) → List ℕ → List ℕ
 gradesAfter (accepted bytes) grades = bytes ++ drop (length bytes) grades
-gradesAfter (refused r) grades = grades
+gradesAfter (refused q) grades = grades
 
 -- the rows of request 3
 abbrev pub eachRows : List ℕ → List ℕ → List ℕ → List ℕ → Shape → Verdict (List ℕ)
@@ -40,18 +40,18 @@ module _ (shape : Shape) (net visits grades work : List ℕ) where
 
   -- the answer and every byte of the output buffer, by these rows; a refusal leaves the work buffer too, a list with no number changes nothing,
   -- and of the work buffer its length and its bytes past one for each record stay
-  pub record EvaluatedEach (answer : EachAnswer) (grades′ work′ : List ℕ) : Type 0 where
-    pub answer-is : answer ≡ eachAnswer verdict
-    pub means : eachMeans answer ≡ answerOf (λ bytes. []) verdict
+  pub record EvaluatedEach (r : EachAnswer) (grades′ work′ : List ℕ) : Type 0 where
+    pub answer : r ≡ eachAnswer verdict
+    pub means : eachMeans r ≡ answerOf (λ bytes. []) verdict
     pub grades-after : grades′ ≡ gradesAfter verdict grades
     -- in plain words, the byte for a cell is the network's grade there
-    pub grade-means : answer ≡ answers.Grades → (i : ℕ) → i < length visits → at visits i < cells (placesOf shape) → GradeAt shape net (at visits i) (at grades′ i)
+    pub grade-means : r ≡ answers.Grades → (i : ℕ) → i < length visits → at visits i < cells (placesOf shape) → GradeAt shape net (at visits i) (at grades′ i)
     -- and each byte says what `evaluate` answers for its number, whatever work buffer that is lent
-    pub as-single : answer ≡ answers.Grades → (i : ℕ) → i < length visits → (w w′ : List ℕ) (single : Evaluation) → length net / 16 ≤ length w
+    pub as-single : r ≡ answers.Grades → (i : ℕ) → i < length visits → (w w′ : List ℕ) (single : Evaluation) → length net / 16 ≤ length w
         → Evaluated shape net (at visits i) w w′ single → evaluationVerdict single ≡ byteVerdict (at grades′ i)
     -- with room for the bytes, the call stops as `evaluate` does with the same work buffer, whatever the cell
-    pub stops-as-single : (r : Refusal) → answer ≡ answers.Refused r → length visits ≤ length grades → (cell : ℕ) (w′ : List ℕ) (single : Evaluation)
-        → Evaluated shape net cell work w′ single → evaluationVerdict single ≡ refused r
-    pub refusal-keeps : (r : Refusal) → answer ≡ answers.Refused r → work′ ≡ work
+    pub stops-as-single : (q : Refusal) → r ≡ answers.Refused q → length visits ≤ length grades → (cell : ℕ) (w′ : List ℕ) (single : Evaluation)
+        → Evaluated shape net cell work w′ single → evaluationVerdict single ≡ refused q
+    pub refusal-keeps : (q : Refusal) → r ≡ answers.Refused q → work′ ≡ work
     pub none-keeps : length visits ≡ 0 → (grades′ ≡ grades) × (work′ ≡ work)
     pub kept : Past (length net / 16) work work′

@@ -1,13 +1,10 @@
 // The grades of a sound network at each cell of a list.
 ghost use Rattle.network_visits.specs.Visiting.{Visitable, Visited, ListReady, VisitedEach};
+use rules::NO_CELL;
 use shape::Shape;
 
-// The byte of a number that is no cell's, and of a cell whose grade is not known: every grade is
-// below it.
-const NO_GRADE: u8 = 255;
-
 // The byte for one number of a list: the grade at that cell, which is run if it is not known from
-// an earlier place.
+// an earlier place. In what is known, the byte that no grade is stands for nothing yet.
 fn visit(
     network: &[u8],
     shape: Shape,
@@ -20,10 +17,10 @@ fn visit(
     ensures { λ byte. ⌜ Visited shape (now (network .entry)) cell (now (work .entry)) byte (now (known .exit)) (now (work .exit)) ⌝ }
 {
     if cells <= cell {
-        return NO_GRADE;
+        return NO_CELL;
     }
     let before = known[cell];
-    if before != NO_GRADE {
+    if before != NO_CELL {
         return before;
     }
     let grade = network_run::grade_at(network, shape, cell, work);
@@ -38,7 +35,7 @@ pub fn grade_each(network: &[u8], shape: Shape, cells: &[u16], grades: &mut [u8]
 {
     let count = shape.cells();
     let visits = cells.len();
-    let mut known = [NO_GRADE; 1024];
+    let mut known = [NO_CELL; 1024];
     for i in 0..visits {
         let cell = cells[i] as usize;
         let byte = visit(network, shape, count, cell, &mut known, work);

@@ -89,7 +89,7 @@ module _ (net bytes visits grades work : List ℕ) where
       → EvaluatesEach net bytes visits grades work r grades′ work′
   evaluates-each x a r grades′ work′ made found number =
       let same : rows x ≡ lent bytes rows = made-lent bytes rows made in
-      promised (number ∙ ap eachNumber (found .answer-is) ∙ verdict-number (rows x) ∙ ap (λ (v : Verdict (List ℕ)). callNumber v (λ written. 0)) same)
+      promised (number ∙ ap eachNumber (found .answer) ∙ verdict-number (rows x) ∙ ap (λ (v : Verdict (List ℕ)). callNumber v (λ written. 0)) same)
       (found .grades-after ∙ ap (λ (v : Verdict (List ℕ)). gradesAfter v grades) same)
       (λ h. keeps a work work′ (found .refusal-keeps) (omega arith)) (found .none-keeps) (found .kept)
 

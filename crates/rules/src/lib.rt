@@ -10,6 +10,9 @@ pub const RECORD: usize = 16;
 // The places of a shape: one for each condition that there can be.
 pub const PLACES: usize = 8;
 
+// In the grades of a list of cells, the byte of a number that is no cell's. Every grade is below it.
+pub const NO_CELL: u8 = 255;
+
 // 01, Joins: the gate that combines two blocks, and the gate of a network's record.
 pub enum Gate {
     Min,
