@@ -1,6 +1,6 @@
-// Evaluates a network at lists of cell numbers, and prints the whole buffer of the grades or the
-// refusal's number; then the bytes of the work buffer that the call had to leave: all of them after
-// a refusal or for an empty list. The buffers hold 77 and 99 everywhere before.
+// Evaluates a network at lists of cell numbers, and prints that grades were written or the refusal's
+// number; then the whole buffer of the grades, and the bytes of the work buffer that the call had to
+// leave: all of them after a refusal and for an empty list. The buffers hold 77 and 99 before.
 use crate::Records;
 use network::EachAnswer;
 use shape::Shape;
