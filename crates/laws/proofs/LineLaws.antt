@@ -69,7 +69,7 @@ value-step [] c i = sym (mod-one (c / 1))
 value-step (k ∷ ks) c zero = ap (λ (x : ℕ). x % k) (sym (div-one c))
 value-step (k ∷ ks) c (suc i) = value-step ks (c / k) i ∙ ap (λ (x : ℕ). x % card ks i) (div-div-eq-div-mul c k (step ks i))
 
-mod-mul : (c k w : ℕ) → 0 < k → 0 < w → c % (k * w) ≡ c % k + k * (c / k % w)
+pub mod-mul : (c k w : ℕ) → 0 < k → 0 < w → c % (k * w) ≡ c % k + k * (c / k % w)
 mod-mul c k w p q =
     ap (λ (x : ℕ). x % (k * w)) (sym split)
     ∙ digit-mod (k * w) (c % k + k * (c / k % w)) (c / k / w) (digit-below k (c % k) (c / k % w) w (mod-lt c p) (mod-lt (c / k) q))

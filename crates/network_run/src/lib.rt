@@ -10,7 +10,7 @@ use rules::PLACES;
 use rules::RECORD;
 use rules::kinds;
 use shape::Shape;
-use tables::extremes;
+use tables::grades;
 
 // The values of the eight conditions at a cell.
 fn values_at(ks: [u8; PLACES], cell: usize) -> [u8; PLACES]
@@ -39,8 +39,8 @@ fn record_grade(r: &[u8], values: &[u8; PLACES], done: &[u8]) -> u8
             let value = values[i] as usize;
             r[8 + value]
         }
-        kinds::MIN => extremes::extreme(false, done[word(r, 4)], done[word(r, 6)]),
-        _ => extremes::extreme(true, done[word(r, 4)], done[word(r, 6)]),
+        kinds::MIN => grades::extreme(false, done[word(r, 4)], done[word(r, 6)]),
+        _ => grades::extreme(true, done[word(r, 4)], done[word(r, 6)]),
     }
 }
 

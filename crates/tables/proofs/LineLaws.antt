@@ -6,7 +6,7 @@ use mathlib.Core.List.{List}
 use mathlib.Core.Logic.{⊎-elim}
 use native.Mathlib.Omega.{arith}
 use native.Mathlib.Numerals.{add-one}
-use native.Mathlib.Nat.{le-refl, mul-comm, mul-assoc, mul-add, mul-le-mul-left, mul-suc, mod-lt, mod-add-div}
+use native.Mathlib.Nat.{mul-one, mul-comm, mul-assoc, mul-add, mul-le-mul-left, mul-suc, mod-lt, mod-add-div}
 use borrow.Author.Count.{below-more}
 use lib.ListN.{length, set, length-set}
 use lib.Seq.{getD-set-same, getD-set-other}
@@ -18,13 +18,17 @@ use Rattle.laws.proofs.CellLaws.{div-below}
 use Rattle.laws.proofs.TableLaws.{at-tabulate}
 use Rattle.laws.proofs.UnionLaws.{digit-mod, digit-div, digit-below}
 use Rattle.tables.specs.Part.{part, Apart}
-use Rattle.tables.specs.Line.{best, lineBest, Line, Spread, Block, BlockSet, Blocks, alongLines}
+use Rattle.tables.specs.Line.{best, order, lineBest, Line, Spread, Block, Blocks}
 use Rattle.tables.proofs.PartLaws.{part-at, Filled}
 
 -- equal bytes have equal extremes
 over-along : (op : ℕ → ℕ → ℕ) (f g : ℕ → ℕ) (a b n : ℕ) → a ≡ b → ((v : ℕ) → v < n → f v ≡ g v) → overTo op (λ u. true) f a n ≡ overTo op (λ u. true) g b n
 over-along op f g a b zero e h = e
 over-along op f g a b (suc n) e h = ap₂ op (over-along op f g a b n e (λ v l. h v (omega arith))) (h n (omega arith))
+
+pub best-bound : (greatest : Bool) → Bound (best greatest) (order greatest)
+best-bound true = max-bound
+best-bound false = min-bound
 
 -- a line of no cell but its first, and one of one more
 pub best-none : (greatest : Bool) (w : List ℕ) (a step : ℕ) → at w a ≡ lineBest greatest w a step 0
@@ -34,6 +38,20 @@ best-none greatest w a step = refl
 pub best-more : (greatest : Bool) (w : List ℕ) (a step v x : ℕ) → x ≡ lineBest greatest w a step v → best greatest x (at w (a + step * v)) ≡ lineBest greatest w a step (v + 1)
 unfolding lineBest
 best-more greatest w a step v x e = rw (add-one v) (ap (λ (y : ℕ). best greatest y (at w (a + step * v))) e)
+
+best-same : (greatest : Bool) (x : ℕ) → best greatest x x ≡ x
+best-same greatest x = let B = best-bound greatest in sym (B .anti (B .left x x) (B .both (B .self x) (B .self x)))
+
+-- a line of one cell, and one of two
+pub best-one : (greatest : Bool) (w : List ℕ) (a step : ℕ) → at w a ≡ lineBest greatest w a step 1
+best-one greatest w a step =
+    let z : a + step * 0 ≡ a = omega arith in
+    sym (best-same greatest (at w a)) ∙ ap (λ (i : ℕ). best greatest (at w a) (at w i)) (sym z) ∙ best-more greatest w a step 0 (at w a) (best-none greatest w a step)
+
+pub best-two : (greatest : Bool) (w : List ℕ) (a step : ℕ) → best greatest (at w a) (at w (a + step)) ≡ lineBest greatest w a step 2
+best-two greatest w a step =
+    let z : a + step * 1 ≡ a + step = omega arith in
+    ap (λ (i : ℕ). best greatest (at w a) (at w i)) (sym z) ∙ best-more greatest w a step 1 (at w a) (best-one greatest w a step)
 
 -- of card steps, step v and all before it lie below the end
 pub line-end : (step card v : ℕ) → v < card → step * v + step ≤ step * card
@@ -62,8 +80,20 @@ block-line {w} {a} {step} {card} w′ o b e h =
 pub line-start : {w : List ℕ} {a step card : ℕ} → Line w a step card → a < length w
 line-start l = omega (arith, l .inside 0 (l .some))
 
+-- the second cell of a line of two, and both filled
+pub line-second : {w : List ℕ} {a step card : ℕ} → Line w a step card → card ≡ 2 → a + step < length w
+line-second {w} {a} {step} l e = omega (arith, l .inside 1 (omega arith), mul-one step)
+
+pub spread-two : {w : List ℕ} {a step card : ℕ} (x : ℕ) → Line w a step card → card ≡ 2 → Spread w a step (λ _. x) 2 (set (set w a x) (a + step) x)
+spread-two {w} {a} {step} x l e =
+    let z : a + step * 0 ≡ a = omega arith in
+    let i : a + step * 1 ≡ a + step = omega (arith, mul-one step) in
+    let s = spread-more x (spread-none w a step (λ _. x)) (l .steps) (omega (arith, line-start l)) refl in
+    let t = spread-more x s (l .steps) (omega (arith, line-second l e)) refl in
+    subst (λ (j : ℕ). Spread w a step (λ _. x) 2 (set (set w j x) (a + step) x)) z (subst (λ (j : ℕ). Spread w a step (λ _. x) 2 (set (set w (a + step * 0) x) j x)) i t)
+
 -- two lines of a block have no cell in common
-lines-apart : (a step o p v u : ℕ) → o < step → p < step → (o ≡ p → ⊥) → a + o + step * v ≡ a + p + step * u → ⊥
+pub lines-apart : (a step o p v u : ℕ) → o < step → p < step → (o ≡ p → ⊥) → a + o + step * v ≡ a + p + step * u → ⊥
 lines-apart a step o p v u h g ne e =
     let q : o + step * v ≡ p + step * u = omega arith in
     ne (sym (digit-mod step o v h) ∙ ap (λ (x : ℕ). x % step) q ∙ digit-mod step p u g)
@@ -73,36 +103,6 @@ unfolding lineBest
 line-same greatest w w′ a step card p h =
     over-along (best greatest) (λ v. at w′ (a + step * v)) (λ v. at w (a + step * v)) (at w′ a) (at w a) card
     (let z : a ≡ a + step * 0 = omega arith in subst (λ (x : ℕ). at w′ x ≡ at w x) (sym z) (h 0 p)) h
-
-pub block-none : (greatest : Bool) (w : List ℕ) (a step card : ℕ) → BlockSet greatest w a step card 0 w
-block-none greatest w a step card =
-    record { len = refl; done = λ o v h. absurd (omega arith); left = λ o v h g i. refl; before = λ j h. refl; after = λ j h. refl }
-
--- one line of the block more
-pub block-more : {greatest : Bool} {w : List ℕ} {a step card s : ℕ} {w′ : List ℕ} {f : ℕ → ℕ} {w″ : List ℕ} → Block w a step card → s < step → BlockSet greatest w a step card s w′
-    → ((v : ℕ) → f v ≡ lineBest greatest w′ (a + s) step card) → Spread w′ (a + s) step f card w″ → BlockSet greatest w a step card (s + 1) w″
-block-more {greatest} {w} {a} {step} {card} {s} {w′} {f} {w″} b h l e n =
-    record {
-      len = n .len ∙ l .len;
-      done = λ o v lt hv.
-          below-more (λ p. at w″ (a + p + step * v) ≡ lineBest greatest w (a + p) step card) s (λ p ps. other p v (omega arith) (λ q. omega arith) ∙ l .done p v ps hv)
-          (n .on v hv ∙ e v ∙ line-same greatest w w′ (a + s) step card (b .some) (λ u hu. l .left s u (le-refl s) h hu)) o lt;
-      left = λ o v lt ho hv. other o v ho (λ q. omega arith) ∙ l .left o v (omega arith) ho hv;
-      before = λ j lt. n .off j (λ u hu q. omega arith) ∙ l .before j lt;
-      after = λ j lt. n .off j (λ u hu q. omega (arith, line-end step card u hu)) ∙ l .after j lt;
-    }
-  where
-    other : (o v : ℕ) → o < step → (o ≡ s → ⊥) → at w″ (a + o + step * v) ≡ at w′ (a + o + step * v)
-    other o v ho ne = n .off (a + o + step * v) (λ u hu q. lines-apart a step o s v u ho h ne q)
-
--- the order that an extreme belongs to
-abbrev pub order : Bool → ℕ → ℕ → Type 0
-order true a b = a ≤ b
-order false a b = b ≤ a
-
-pub best-bound : (greatest : Bool) → Bound (best greatest) (order greatest)
-best-bound true = max-bound
-best-bound false = min-bound
 
 -- the extreme of some numbers is the same from whichever of them it starts
 seed-any : (greatest : Bool) (f : ℕ → ℕ) (i j n : ℕ) → i < n → j < n → overTo (best greatest) (λ u. true) f (f i) n ≡ overTo (best greatest) (λ u. true) f (f j) n
@@ -147,41 +147,6 @@ line-table greatest w a n step card k o v b ho hv e inside =
 
 pub block-in : {w : List ℕ} {a count step card : ℕ} (w′ : List ℕ) (b : ℕ) → Blocks w a count step card → length w′ ≡ length w → b < count → Block w′ (a + step * card * b) step card
 block-in {w} {a} {count} {step} {card} w′ b p e h = record { some = p .some; inside = let i = p .inside in omega (arith, line-end (step * card) count b h) }
-
--- one block more
-pub blocks-more : {greatest : Bool} {w : List ℕ} {a count step card b : ℕ} {w′ w″ : List ℕ} → Blocks w a count step card → b < count
-    → Filled w a (at (alongLines greatest (part w a (step * card * count)) step card count)) (step * card * b) w′
-    → BlockSet greatest w′ (a + step * card * b) step card step w″
-    → Filled w a (at (alongLines greatest (part w a (step * card * count)) step card count)) (step * card * (b + 1)) w″
-unfolding alongLines
-blocks-more {greatest} {w} {a} {count} {step} {card} {b} {w′} {w″} p h l s =
-    record {
-      len = s .len ∙ l .len;
-      here = λ k lt. by-order base k (λ ge. new k ge lt) (λ lo. s .before (a + k) (omega arith) ∙ l .here k lo);
-      before = λ j lt. s .before j (omega arith) ∙ l .before j lt;
-      after = λ j lt. s .after j (omega (arith, size)) ∙ l .after j (omega (arith, size));
-    }
-  where
-    base : ℕ
-    base = step * card * b
-
-    size : step * card * (b + 1) ≡ step * card * b + step * card
-    size = rw (add-one b) (mul-suc (step * card) b)
-
-    new : (k : ℕ) → base ≤ k → k < step * card * (b + 1) → at w″ (a + k) ≡ at (alongLines greatest (part w a (step * card * count)) step card count) k
-    new k ge lt =
-        let d = k - base in
-        let o = d % step in
-        let v = d / step in
-        let ho : o < step = mod-lt d (p .steps) in
-        let hv : v < card = div-below d step card (p .steps) (omega (arith, size)) in
-        let e : k ≡ o + step * v + base = omega (arith, mod-add-div d step) in
-        let i : a + k ≡ a + base + o + step * v = omega arith in
-        ap (at w″) i
-        ∙ s .done o v ho hv
-        ∙ line-same greatest w w′ (a + base + o) step card (p .some) (λ u hu. l .after (a + base + o + step * u) (omega arith))
-        ∙ sym (line-table greatest w a (step * card * count) step card k o v b ho hv e (λ u hu. omega (arith, line-end step card u hu, line-end (step * card) count b h)))
-        ∙ sym (at-tabulate (step * card * count) _ k (omega (arith, size, line-end (step * card) count b h)))
 
 -- what is read at the other part of a spread is what stood there
 pub read-spread : {w : List ℕ} {from m to step n k : ℕ} {f : ℕ → ℕ} {c : ℕ} {w′ : List ℕ} → Apart w from m to (step * n) → k < step → Spread w (to + k) step f c w′ → c ≤ n

@@ -1,4 +1,4 @@
--- Over one condition and over a set, in place.
+-- Over one condition.
 use Prim.Native.Nat.{ℕ, zero, suc, _+_, _*_, _/_, _≤_, _<_}
 use mathlib.Core.Path.{_≡_, refl, sym, _∙_, ap, ap₂}
 use mathlib.Core.Bool.{Bool, true, false, cond}
@@ -61,78 +61,21 @@ counted ks i stp crd total p h es ec et =
     quotient : total / (stp * crd) ≡ cells (drop (suc i) ks)
     quotient = ap (λ (x : ℕ). x / (stp * crd)) (et ∙ whole) ∙ mul-div-cancel-left (cells (drop (suc i) ks)) size
 
-pub counted-blocks : {ks : List ℕ} {i stp crd count : ℕ} (w : List ℕ) (a : ℕ) → Positive ks → Counted ks i stp crd count → a + cells ks ≤ length w → Blocks w a count stp crd
-counted-blocks {ks} {i} {stp} {crd} {count} w a p n h =
-    record {
-      steps = n .steps;
-      some = n .some;
-      more = go count (n .all);
-      inside = let e = n .all in omega arith;
-    }
+-- there is one
+pub blocks-some : {ks : List ℕ} {i stp crd count : ℕ} → Counted ks i stp crd count → 0 < count
+blocks-some {ks} {i} {stp} {crd} {count} n = go count (n .all)
   where
     go : (c : ℕ) → stp * crd * c ≡ cells ks → 0 < c
-    go zero e = absurd (omega (arith, mul-zero (stp * crd), cells-pos ks p))
+    go zero e = absurd (let l = n .low in let s = n .size in omega (arith, mul-zero (stp * crd)))
     go (suc c) e = omega arith
 
+pub counted-blocks : {ks : List ℕ} {i stp crd count : ℕ} (w : List ℕ) (a : ℕ) → Counted ks i stp crd count → a + cells ks ≤ length w → Blocks w a count stp crd
+counted-blocks w a n h = record { steps = n .steps; some = n .some; more = blocks-some n; inside = let e = n .all in omega arith }
+
 -- the extremes along the lines of a condition are those over it
-pub laid-over : (greatest : Bool) {ks w w′ : List ℕ} {i a stp crd count : ℕ} → Positive ks → Counted ks i stp crd count
-    → Laid w a (alongLines greatest (part w a (stp * crd * count)) stp crd count) (stp * crd * count) w′
-    → Laid w a (over (best greatest) ks (singleton i) (part w a (cells ks))) (cells ks) w′
+pub along-over : (greatest : Bool) (ks g : List ℕ) (i n k : ℕ) → Positive ks → i < length ks → n ≡ cells ks → k < n
+    → at (alongLines greatest g (step ks i) (card ks i) (n / (step ks i * card ks i))) k ≡ at (over (best greatest) ks (singleton i) g) k
 unfolding alongLines
-laid-over greatest {ks} {w} {w′} {i} {a} {stp} {crd} {count} p n l =
-    record {
-      len = l .len;
-      here = λ k h.
-          l .here k (let e = n .all in omega arith)
-          ∙ ap₂ (λ (s c : ℕ). at (alongLines greatest (part w a (stp * crd * count)) s c count) k) (n .step-is) (n .card-is)
-          ∙ ap (λ (m : ℕ). at (alongLines greatest (part w a m) (step ks i) (card ks i) count) k) (n .all)
-          ∙ at-tabulate (step ks i * card ks i * count) _ k (let e = ap₂ (λ (s c : ℕ). s * c * count) (n .step-is) (n .card-is) in omega (arith, n .all))
-          ∙ sym (over-steps (best-bound greatest) ks (part w a (cells ks)) i k p h);
-      before = l .before;
-      after = λ j h. l .after j (let e = n .all in omega arith);
-    }
-
--- over the conditions of a set that are below i
-abbrev pub below : Bool → List ℕ → ℕ → ℕ → List ℕ → List ℕ
-below greatest ks set i f = overEach (best-bound greatest) ks set (numbersFrom 0 i) f
-
-each-next : (greatest : Bool) (ks : List ℕ) (set a n : ℕ) (f : List ℕ)
-    → overEach (best-bound greatest) ks set (numbersFrom a (suc n)) f
-    ≡ cond (has set (a + n)) (over (best greatest) ks (singleton (a + n)) (overEach (best-bound greatest) ks set (numbersFrom a n) f)) (overEach (best-bound greatest) ks set (numbersFrom a n) f)
-each-next greatest ks set a zero f = ap (λ (i : ℕ). cond (has set i) (over (best greatest) ks (singleton i) f) f) (sym (add-zero a))
-each-next greatest ks set a (suc n) f =
-    let e : suc a + n ≡ a + suc n = omega arith in
-    let g = cond (has set a) (over (best greatest) ks (singleton a) f) f in
-    let h = overEach (best-bound greatest) ks set (numbersFrom (suc a) n) g in
-    each-next greatest ks set (suc a) n g ∙ ap (λ (i : ℕ). cond (has set i) (over (best greatest) ks (singleton i) h) h) e
-
-module _ (greatest : Bool) (ks : List ℕ) (set i : ℕ) where
-  next : (o : Bool) (f : List ℕ) → has set i ≡ o → cond o (over (best greatest) ks (singleton i) (below greatest ks set i f)) (below greatest ks set i f) ≡ below greatest ks set (i + 1) f
-  next o f e =
-      let g = below greatest ks set i f in
-      rw (add-one i)
-      (ap (λ (b : Bool). cond b (over (best greatest) ks (singleton i) g) g) (sym e)
-      ∙ ap (λ (j : ℕ). cond (has set j) (over (best greatest) ks (singleton j) g) g) (sym (zero-add i))
-      ∙ sym (each-next greatest ks set 0 i f))
-
-  module _ {w : List ℕ} {a : ℕ} {w′ : List ℕ} (l : Laid w a (below greatest ks set i (part w a (cells ks))) (cells ks) w′) where
-    -- condition i is not in the set
-    pub set-skip : has set i ≡ false → Laid w a (below greatest ks set (i + 1) (part w a (cells ks))) (cells ks) w′
-    set-skip e = laid-same _ l (λ k h. ap (λ (t : List ℕ). at t k) (next false (part w a (cells ks)) e))
-
-    -- condition i is in the set
-    pub set-more : {w″ : List ℕ} → has set i ≡ true → Laid w′ a (over (best greatest) ks (singleton i) (part w′ a (cells ks))) (cells ks) w″
-        → Laid w a (below greatest ks set (i + 1) (part w a (cells ks))) (cells ks) w″
-    set-more e n =
-        let f = part w a (cells ks) in
-        laid-same _ (laid-then l n)
-        (λ k h.
-        ap (λ (t : List ℕ). at t k)
-        (over-same (best-bound greatest) ks (singleton i) (part w′ a (cells ks)) (below greatest ks set i f) (λ c hc. part-at w′ a (cells ks) c hc ∙ l .here c hc)
-        ∙ next true f e))
-
-    -- every place is done
-    pub set-all : Positive ks → i ≡ length ks → Laid w a (over (best greatest) ks set (part w a (cells ks))) (cells ks) w′
-    set-all p e =
-        let f = part w a (cells ks) in
-        laid-same _ l (λ k h. ap (λ (j : ℕ). at (below greatest ks set j f) k) e ∙ over-each (best-bound greatest) ks set f p k h)
+along-over greatest ks g i n k p h e lt =
+    let c = counted ks i (step ks i) (card ks i) n p h refl (sym (card-read ks i h)) e in
+    at-tabulate (step ks i * card ks i * (n / (step ks i * card ks i))) _ k (omega (arith, c .all)) ∙ sym (over-steps (best-bound greatest) ks g i k p (omega arith))

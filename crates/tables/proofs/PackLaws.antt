@@ -3,7 +3,8 @@ use Prim.Native.Nat.{ℕ, _+_, _-_, _*_, _/_, _%_, _≤_, _<_}
 use mathlib.Core.Path.{_≡_, sym, _∙_, ap, ap₂}
 use mathlib.Core.Bool.{Bool, true}
 use mathlib.Core.List.{List}
-use native.Mathlib.Nat.{mul-comm, mul-assoc, mul-suc, mul-zero, mul-le-mul-right, mod-lt}
+use mathlib.Core.Logic.{_⊎_, ⊎-elim, inl, inr}
+use native.Mathlib.Nat.{mul-comm, mul-assoc, mul-suc, mul-zero, mul-one, mul-le-mul-left, mul-le-mul-right, mod-lt}
 use native.Mathlib.Numerals.{add-one}
 use native.Mathlib.Omega.{arith}
 use lib.ListN.{length}
@@ -40,6 +41,25 @@ module _ {w : List ℕ} {a to count step card : ℕ} (p : Blocks w a count step 
         mul-assoc card step b,
         ap (λ (x : ℕ). x * b) (mul-comm step card),
       )
+
+  -- a row is written where its block starts, or before it
+  pub aside : (a ≡ to) ⊎ (to + step ≤ a) → (b : ℕ) → (a + step * card * b ≡ to + step * b) ⊎ (to + step * b + step ≤ a + step * card * b)
+  aside q b =
+      by-order 2 card
+      (λ two.
+      by-order 1 b
+      (λ one. inr (omega (arith, cells, mul-le-mul-right (step * b) two, mul-le-mul-left step one, mul-one step)))
+      (λ none. let z : b ≡ 0 = omega arith in start z (ap (λ (x : ℕ). step * card * x) z ∙ mul-zero (step * card))))
+      (λ one. let k : card ≡ 1 = let s = p .some in omega arith in same (ap (λ (x : ℕ). step * x * b) k ∙ ap (λ (x : ℕ). x * b) (mul-one step)))
+    where
+      cells : card * (step * b) ≡ step * card * b
+      cells = sym (mul-assoc card step b) ∙ ap (λ (x : ℕ). x * b) (mul-comm card step)
+
+      same : step * card * b ≡ step * b → (a + step * card * b ≡ to + step * b) ⊎ (to + step * b + step ≤ a + step * card * b)
+      same e = ⊎-elim (λ x. inl (omega arith)) (λ x. inr (omega arith)) q
+
+      start : b ≡ 0 → step * card * b ≡ 0 → (a + step * card * b ≡ to + step * b) ⊎ (to + step * b + step ≤ a + step * card * b)
+      start z e = same (e ∙ sym (ap (λ (x : ℕ). step * x) z ∙ mul-zero step))
 
   -- one block more
   pub packed-more : (greatest : Bool) {b : ℕ} {w′ w″ : List ℕ} → b < count → Filled w to (extreme greatest w a step card) (step * b) w′

@@ -12,6 +12,11 @@ abbrev pub best : Bool → ℕ → ℕ → ℕ
 best true = max
 best false = min
 
+-- the order that an extreme belongs to
+abbrev pub order : Bool → ℕ → ℕ → Type 0
+order true a b = a ≤ b
+order false a b = b ≤ a
+
 -- the extreme of the bytes at a, a + step, .., card of them
 unfoldable pub lineBest : Bool → List ℕ → ℕ → ℕ → ℕ → ℕ
 lineBest greatest w a step card = overTo (best greatest) (λ v. true) (λ v. at w (a + step * v)) (at w a) card
@@ -32,21 +37,6 @@ pub record Spread (w : List ℕ) (a step : ℕ) (f : ℕ → ℕ) (n : ℕ) (w�
 pub record Block (w : List ℕ) (a step card : ℕ) : Type 0 where
   pub some : 0 < card
   pub inside : a + step * card ≤ length w
-
--- w′ is w with the extreme of each of a block's first s lines all along the line
-pub record BlockSet (greatest : Bool) (w : List ℕ) (a step card s : ℕ) (w′ : List ℕ) : Type 0 where
-  pub len : length w′ ≡ length w
-  pub done : (o v : ℕ) → o < s → v < card → at w′ (a + o + step * v) ≡ lineBest greatest w (a + o) step card
-  pub left : (o v : ℕ) → s ≤ o → o < step → v < card → at w′ (a + o + step * v) ≡ at w (a + o + step * v)
-  pub before : (j : ℕ) → j < a → at w′ j ≡ at w j
-  pub after : (j : ℕ) → a + step * card ≤ j → at w′ j ≡ at w j
-
--- w′ is w with the first row of a block in its first n rows
-pub record Repeated (w : List ℕ) (a step card n : ℕ) (w′ : List ℕ) : Type 0 where
-  pub len : length w′ ≡ length w
-  pub rows : (o v : ℕ) → o < step → v < n → at w′ (a + o + step * v) ≡ at w (a + o)
-  pub before : (j : ℕ) → j < a → at w′ j ≡ at w j
-  pub after : (j : ℕ) → a + step * card ≤ j → at w′ j ≡ at w j
 
 -- a table of count blocks at a
 pub record Blocks (w : List ℕ) (a count step card : ℕ) : Type 0 where

@@ -1,5 +1,5 @@
 // Functions that fill one part of a buffer from others.
-use crate::extremes;
+use crate::grades;
 use rules::Gate;
 ghost use Prim.Native.Nat.{ℕ, _+_, _-_, _≤_, _<_};
 ghost use mathlib.Core.Path.{_≡_};
@@ -93,6 +93,6 @@ pub fn combine(w: &mut [u8], gate: Gate, a: usize, b: usize, to: usize, n: usize
 {
     let greatest = takes_greater(gate);
     for c in 0..n {
-        w[to + c] = extremes::extreme(greatest, w[a + c], w[b + c]);
+        w[to + c] = grades::extreme(greatest, w[a + c], w[b + c]);
     }
 }

@@ -1,5 +1,5 @@
 // Tests of every cell. Each stops at the first cell that fails.
-use crate::extremes;
+use crate::grades;
 ghost use Prim.Native.Nat.{_+_, _≤_, max};
 ghost use mathlib.Core.Path.{_≡_};
 ghost use lib.Dec.{leb};
@@ -26,7 +26,7 @@ pub fn within_either(w: &[u8], low: usize, a: usize, b: usize, n: usize) -> bool
     ensures { λ r. ⌜ r ≡ all n (λ c. leb (at (part (now (w .entry)) low n) c) (max (at (part (now (w .entry)) a n) c) (at (part (now (w .entry)) b n) c))) ⌝ }
 {
     for c in 0..n {
-        if extremes::extreme(true, w[a + c], w[b + c]) < w[low + c] {
+        if grades::extreme(true, w[a + c], w[b + c]) < w[low + c] {
             return false;
         }
     }

@@ -1,0 +1,4 @@
+-- What the contracts of the extremes cite.
+pub mod Grades
+pub mod Members
+pub mod Walk

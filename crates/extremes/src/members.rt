@@ -1,0 +1,40 @@
+// The members of a set that a walk over its classes asks for.
+use rules::PLACES;
+ghost use mathlib.Core.Path.{_≡_};
+ghost use mathlib.Core.Bool.{not, _&&_};
+ghost use lib.Dec.{ltb};
+ghost use Rattle.extremes.specs.Members.{IsLowest, IsRun};
+
+// The lowest member; 8 where there is none.
+pub fn lowest(set: u8) -> usize
+    ensures { λ r. ⌜ IsLowest set r ⌝ }
+{
+    for i in 0..PLACES {
+        if places::has_member(set, i) {
+            return i;
+        }
+    }
+    PLACES
+}
+
+// A condition that is there and no member.
+fn is_outside(card: u8, member: bool) -> bool
+    ensures { λ r. ⌜ r ≡ (ltb 1 card && not member) ⌝ }
+{
+    if member {
+        return false;
+    }
+    1 < card
+}
+
+// How many of the low places have no condition but members.
+pub fn run(ks: [u8; PLACES], set: u8) -> usize
+    ensures { λ r. ⌜ IsRun ks set r ⌝ }
+{
+    for i in 0..PLACES {
+        if is_outside(ks[i], places::has_member(set, i)) {
+            return i;
+        }
+    }
+    PLACES
+}
