@@ -3,7 +3,7 @@ use Prim.Native.Nat.{ℕ, _*_, _≤_, _<_}
 use mathlib.Core.Path.{_≡_, refl, sym, _∙_, ap}
 use mathlib.Core.Bool.{Bool, true, false}
 use mathlib.Core.List.{List, _++_}
-use native.Mathlib.Nat.{le-trans, le-refl, zero-add}
+use native.Mathlib.Nat.{le-trans}
 use native.Mathlib.Omega.{arith}
 use lib.ListN.{length, drop}
 use Rattle.rules.specs.declared.Gate.{Gate}
@@ -16,16 +16,10 @@ use Rattle.laws.proofs.GateLaws.{Good, exchangeFor-good, first-good}
 use Rattle.laws.proofs.JoinLaws.{uA-under, uB-under}
 use Rattle.laws.proofs.TestLaws.{passes}
 use Rattle.tables.specs.Part.{part, Laid}
-use Rattle.tables.proofs.PartLaws.{part-at}
-use Rattle.join_tables.specs.Parts.{Below, Holds, Placed, Exchanging, Exchanged, Work, Begun, Uppers, Existing, First, Second, Judged}
-use Rattle.join_tables.proofs.HoldLaws.{holds-at, holds-part, laid-within, stays-below, stays-behind}
-use Rattle.join_tables.proofs.StepLaws.{before, grades-both}
+use Rattle.join_tables.specs.Parts.{Below, Holds, Work, Lent, Begun, Opened, Existing, First, Second, Judged}
+use Rattle.join_tables.proofs.HoldLaws.{holds-at, holds-part, laid-holds, laid-within, loaded, stays-below, stays-behind}
 use Rattle.join_tables.proofs.BlindLaws.{block-inside}
 use Rattle.join.specs.Steps.{Opening, Joining, Opens, Given, Completes, Delivered}
-
--- a table from another buffer
-loaded : {w : List ℕ} {a n : ℕ} {x w′ : List ℕ} → Laid w a (part x 0 n) n w′ → Holds w′ a x n
-loaded {n = n} {x = x} l = record { here = λ c lt. l .here c lt ∙ part-at x 0 n c lt ∙ ap (at x) (zero-add c) }
 
 -- a table under the upper limits of some that are grades
 grades : {ks : List ℕ} {m n a : ℕ} {y : Limits} {w u : List ℕ} → n ≡ cells ks → Good ks m y → Holds w a u n → ((c : ℕ) → c < cells ks → at u c ≤ at (y .upper) c) → Below w a n m
@@ -34,33 +28,34 @@ grades {ks} e good h f = record { grade = λ c lt. let i : c < cells ks = omega 
 table-good : {ks : List ℕ} {m : ℕ} {l : Limits} → Table ks m l → Good ks m l
 table-good w = record { room = w .ordered; top = w .top }
 
--- limits loaded to parts 0 and 1
-module _ {ks lower upper w : List ℕ} {m n : ℕ} (p : Opening ks m n lower upper w) {v₁ v₂ : List ℕ} (low : Laid w 0 (part lower 0 n) n v₁) (high : Laid v₁ n (part upper 0 n) n v₂) where
-  abbrev lent : Limits
-  lent = limitsOf lower upper
+table-work : {ks : List ℕ} {m n : ℕ} {l : Limits} {w : List ℕ} → Table ks m l → n ≡ cells ks → 8 * n ≤ length w → Work w ks n
+table-work x e le = record { shaped = record { some = x .positive; few = x .few-cells }; count = e; room = le }
 
-  placed : Placed v₂ 0 lent n
-  placed = record { lows = stays-below (laid-within high) (omega arith) (loaded low); highs = holds-at (omega arith) (loaded high) }
-
-  pub exchange-ready : Exchanging v₂ m 0 (2 * n) n
-  exchange-ready =
+-- lent limits, and the join under them opened
+module _ {ks lower upper w : List ℕ} {m n : ℕ} (p : Opening ks m n lower upper w) where
+  pub opening-ready : Work w ks n × Lent lower upper m n
+  opening-ready =
       let x = p .table in
-      let r = p .room in
-      let i = low .len in
-      let j = high .len in
-      record {
-        some = omega (arith, x .grades);
-        parts = before 0 (2 * n) (2 * n) (2 * n) (omega arith) (omega arith);
-        grades = grades-both 0 n n (omega arith) (grades (p .count) (table-good x) (placed .lows) (x .ordered)) (grades (p .count) (table-good x) (loaded high) (λ c i. le-refl _));
-      }
+      let e = p .count in (
+        table-work x e (p .room),
+        record {
+          some = omega (arith, x .grades);
+          low = p .low;
+          high = p .high;
+          lows = λ c lt. le-trans (x .ordered c (omega arith)) (x .top c (omega arith));
+          highs = λ c lt. x .top c (omega arith);
+        },
+      )
 
-  -- exchanged to parts 2 and 3, uA and uB in parts 4 and 5
-  pub opens : {gate : Gate} {s t : ℕ} {v₃ w′ : List ℕ} {r : Bool} → Exchanged gate v₂ m 0 (2 * n) n v₃ → Uppers ks s t n v₃ w′ → Existing n w′ r → Opens gate ks m s t lent n w r w′
-  opens {gate} {s} {t} x u e =
-      let o = u .opened gate m lent (x .limits ks lent (p .count) placed) in
-      let len = u .kept .len ∙ x .kept .len ∙ high .len ∙ low .len in
+  pub opens : {gate : Gate} {s t : ℕ} {w′ : List ℕ} {r : Bool} → Opened gate ks m s t (limitsOf lower upper) n w′ → length w′ ≡ length w → Existing n w′ r
+      → Opens gate ks m s t (limitsOf lower upper) n w r w′
+  opens {gate} {s} {t} o len e =
       let r = p .room in
-      record { answer = e .answer gate ks m s t lent (p .count) o; joining = record { table = p .table; count = p .count; room = omega arith; opened = o }; len = len }
+      record {
+        answer = e .answer gate ks m s t (limitsOf lower upper) (p .count) o;
+        joining = record { table = p .table; count = p .count; room = omega arith; opened = o };
+        len = len;
+      }
 
 pub given : {gate : Gate} {ks : List ℕ} {m s t : ℕ} {l : Limits} {n : ℕ} {w w′ g : List ℕ} {r : Bool} → Opens gate ks m s t l n w r w′ → r ≡ true → n ≤ length g → Given gate ks m s t n g w′
 given {l = l} o e h = record { l = l; joining = o .joining; exists = sym (o .answer) ∙ e; block = h }
@@ -74,7 +69,7 @@ module _ {gate : Gate} {ks : List ℕ} {m s t : ℕ} {l : Limits} {n : ℕ} {w :
   x-good = exchangeFor-good ks m gate l (table-good (j .table))
 
   work : {v : List ℕ} → length v ≡ length w → Work v ks n
-  work e = let r = j .room in record { shaped = record { some = j .table .positive; few = j .table .few-cells }; count = j .count; room = omega arith }
+  work e = let r = j .room in table-work (j .table) (j .count) (omega arith)
 
   some : 1 ≤ m
   some = omega (arith, j .table .grades)
@@ -90,19 +85,19 @@ module _ {gate : Gate} {ks : List ℕ} {m s t : ℕ} {l : Limits} {n : ℕ} {w :
 
 -- the first block's limits are made, a block g is loaded to part 1 and judged
 module _ {gate : Gate} {ks : List ℕ} {m t n : ℕ} {w w₁ w₂ w₃ : List ℕ} {q : Bool} (first : First gate ks m t n w w₁) (g : List ℕ) (load : Laid w₁ n (part g 0 n) n w₂)
-    (judged : Judged ks t n w₂ q w₃) where
+    (judged : Judged ks t n g w₂ q w₃) where
   len : length w₃ ≡ length w
   len = judged .kept .len ∙ load .len ∙ first .kept .len
 
   block : Holds w₃ n g n
-  block = stays-below (judged .kept) (omega arith) (loaded load)
+  block = stays-below (judged .kept) (omega arith) (laid-holds (loaded load))
 
   module _ {s : ℕ} {l : Limits} (j : Joining gate ks m s t l n w) where
     row-nine : q ≡ blockSound ks t (firstLimits gate ks m s t l) g
     row-nine =
         let p = first .limits s l (j .opened) in
         let k = laid-within load in
-        judged .answer (firstLimits gate ks m s t l) g (record { lows = stays-behind k (omega arith) (p .lows); highs = stays-behind k (omega arith) (p .highs) }) (loaded load)
+        judged .answer (firstLimits gate ks m s t l) (record { lows = stays-behind k (omega arith) (p .lows); highs = stays-behind k (omega arith) (p .highs) })
 
     begun : Begun gate ks m s t l n w₃
     begun =

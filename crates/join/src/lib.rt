@@ -71,10 +71,7 @@ fn open(
     requires { ⌜ Opening ks m n (now lower) (now upper) (now w) ⌝ }
     ensures { λ r. ⌜ Opens gate ks m s t (limitsOf (now (lower .entry)) (now (upper .entry))) n (now (w .entry)) r (now (w .exit)) ⌝ }
 {
-    fill::load(w, lower, 0, n);
-    fill::load(w, upper, n, n);
-    join_tables::exchange(w, gate, m, 0, 2 * n, n);
-    join_tables::uppers(w, ks, s, t, n);
+    join_tables::open_limits(w, lower, upper, gate, ks, m, s, t, n);
     join_tables::exists(w, n)
 }
 
@@ -95,7 +92,7 @@ fn second_given(
 {
     join_tables::first_limits(w, gate, ks, m, t, n);
     fill::load(w, g, n, n);
-    if !join_tables::block_sound(w, ks, t, n) {
+    if !join_tables::block_sound(w, g, ks, t, n) {
         return false;
     }
     join_tables::second_limits(w, gate, ks, m, s, n);

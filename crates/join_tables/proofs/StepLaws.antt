@@ -9,17 +9,17 @@ use lib.Dec.{leb}
 use lib.ListN.{length}
 use Rattle.rules.specs.declared.Gate.{Gate}
 use Rattle.rules.specs.Bytes.{at, tabulate, all}
-use Rattle.rules.specs.Cell.{cells, over, greatestOver, leastOver}
+use Rattle.rules.specs.Cell.{cells, greatestOver, leastOver}
+use Rattle.rules.specs.Limits.{Limits}
 use Rattle.rules.specs.Join.{above, uA, uB, exchangeFor}
 use Rattle.laws.proofs.TableLaws.{at-tabulate, tabulate-same, all-same}
 use Rattle.laws.proofs.TestLaws.{by-order}
 use Rattle.laws.proofs.JoinLaws.{above-le}
-use Rattle.laws.proofs.OverLaws.{Bound, max-bound, min-bound, over-bound}
-use Rattle.laws.proofs.LineLaws.{over-same}
+use Rattle.laws.proofs.OverLaws.{max-bound, over-bound}
 use Rattle.tables.specs.Part.{part, Laid, Apart}
 use Rattle.tables.proofs.PartLaws.{part-at}
-use Rattle.join_tables.specs.Parts.{turned, Below, Holds, Within, Exchanging, Exchanged, Work, Uppers, Existing, First, Second}
-use Rattle.join_tables.proofs.HoldLaws.{holds-at, laid-within, within-then, stays-below, stays-behind}
+use Rattle.join_tables.specs.Parts.{turned, Below, Holds, Within, Exchanging, Exchanged, Work, Opened, Existing, First, Second}
+use Rattle.join_tables.proofs.HoldLaws.{holds-at, laid-holds, laid-within, within-then, stays-below, stays-behind}
 use Rattle.join_tables.proofs.TurnLaws.{turned-holds}
 
 -- parts to read and to write, one behind the other
@@ -29,12 +29,7 @@ before from m to n le room = record { src = omega arith; dst = room; apart = inl
 pub behind : {w : List ℕ} (from m to n : ℕ) → to + n ≤ from → from + m ≤ length w → Apart w from m to n
 behind from m to n le room = record { src = room; dst = omega arith; apart = inr le }
 
--- an extreme of whatever table stood there
-pub over-holds : {op : ℕ → ℕ → ℕ} {R : ℕ → ℕ → Type 0} (B : Bound op R) (ks : List ℕ) (set : ℕ) {w : List ℕ} {from to n : ℕ} {u w′ : List ℕ} → n ≡ cells ks
-    → Laid w to (over op ks set (part w from n)) n w′ → Holds w from u n → Holds w′ to (over op ks set u) n
-over-holds B ks set {w} {from} {to} {n} {u} e l h =
-    record { here = λ c lt. l .here c lt ∙ ap (λ (f : List ℕ). at f c) (over-same B ks set (part w from n) u (λ d hd. part-at w from n d (omega arith) ∙ h .here d (omega arith))) }
-
+-- the greatest of the grades that are above, for whatever tables stood there
 module _ (ks : List ℕ) (set high : ℕ) {w : List ℕ} {low to n : ℕ} {w′ : List ℕ} (e : n ≡ cells ks)
     (l : Laid w to (greatestOver ks set (tabulate n (λ c. above (at (part w low n) c) (at (part w high n) c)))) n w′) where
   above-holds : {x y : List ℕ} → Holds w low x n → Holds w high y n → Holds w′ to (greatestOver ks set (tabulate (cells ks) (λ c. above (at x c) (at y c)))) n
@@ -66,34 +61,19 @@ grades-below {a = a} p le b = record { grade = λ c lt. rw (p .before (a + c) (o
 pub grades-behind : {w w′ : List ℕ} {lo hi a n m : ℕ} → Within w lo hi w′ → hi ≤ a → Below w a n m → Below w′ a n m
 grades-behind {a = a} p le b = record { grade = λ c lt. rw (p .after (a + c) (omega arith)) (b .grade c lt) }
 
-pub grades-both : {w : List ℕ} {m : ℕ} (a b n : ℕ) → a + n ≡ b → Below w a n m → Below w b n m → Below w a (2 * n) m
+grades-both : {w : List ℕ} {m : ℕ} (a b n : ℕ) → a + n ≡ b → Below w a n m → Below w b n m → Below w a (2 * n) m
 grades-both {w} {m} a b n e p q =
     record { grade = λ c lt. by-order n c (λ le. let i : b + (c - n) ≡ a + c = omega arith in subst (λ (j : ℕ). at w j ≤ m - 1) i (q .grade (c - n) (omega arith))) (λ less. p .grade c less) }
 
--- both blocks' upper limits
-module _ {w ks : List ℕ} {n : ℕ} (work : Work w ks n) where
-  pub uppers-first : Apart w (3 * n) n (4 * n) n
-  uppers-first = let r = work .room in before (3 * n) n (4 * n) n (omega arith) (omega arith)
-
-  module _ (s t : ℕ) {v : List ℕ} (a : Laid w (4 * n) (leastOver ks t (part w (3 * n) n)) n v) where
-    pub uppers-second : Apart v (3 * n) n (5 * n) n
-    uppers-second = let r = work .room in let k = a .len in before (3 * n) n (5 * n) n (omega arith) (omega arith)
-
-    pub uppers : {w′ : List ℕ} → Laid v (5 * n) (leastOver ks s (part v (3 * n) n)) n w′ → Uppers ks s t n w w′
-    uppers b =
-        record {
-          opened = λ gate m l y.
-              let u = holds-at {b = 3 * n} (omega arith) (y .highs) in
-              record {
-                begun =
-                    record {
-                      lows = stays-below (laid-within b) (omega arith) (stays-below (laid-within a) (omega arith) (y .lows));
-                      seconds = over-holds min-bound ks s (work .count) b (stays-below (laid-within a) (omega arith) u);
-                    };
-                firsts = stays-below (laid-within b) (omega arith) (over-holds min-bound ks t (work .count) a u);
-              };
-          kept = within-then (4 * n) (6 * n) (laid-within a) (laid-within b) (omega arith) (omega arith) (omega arith) (omega arith);
-        }
+-- the join under lent limits: both blocks' upper limits are made
+pub opened : (gate : Gate) (ks : List ℕ) (m s t : ℕ) (l : Limits) {n : ℕ} {w v₁ v₂ w′ : List ℕ}
+    → let x = exchangeFor gate ks m l in
+    Laid w (2 * n) (x .lower) n v₁ → Laid v₁ (4 * n) (leastOver ks t (x .upper)) n v₂ → Laid v₂ (5 * n) (leastOver ks s (x .upper)) n w′ → Opened gate ks m s t l n w′
+opened gate ks m s t l low a b =
+    record {
+      begun = record { lows = stays-below (laid-within b) (omega arith) (stays-below (laid-within a) (omega arith) (laid-holds low)); seconds = laid-holds b };
+      firsts = stays-below (laid-within b) (omega arith) (laid-holds a);
+    }
 
 -- whether the join exists
 pub existing : {w : List ℕ} {n : ℕ} (r : Bool) → r ≡ all n (λ c. leb (at (part w (2 * n) n) c) (max (at (part w (4 * n) n) c) (at (part w (5 * n) n) c))) → Existing n w r

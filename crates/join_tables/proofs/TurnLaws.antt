@@ -1,22 +1,28 @@
 -- Tables made in a part: exchanged, and extremes over a set.
 use Prim.Native.Nat.{ℕ, _+_, _-_, _*_, _≤_, _<_}
-use mathlib.Core.Path.{_≡_, sym, _∙_, ap, subst}
+use mathlib.Core.Path.{_≡_, refl, sym, _∙_, ap, subst}
 use mathlib.Core.Bool.{Bool}
-use mathlib.Core.List.{List}
+use mathlib.Core.List.{List, [], _∷_}
 use mathlib.Core.Logic.{inl, inr, ⊎-elim}
+use native.Mathlib.Nat.{add-zero, zero-add}
 use native.Mathlib.Omega.{arith}
+use lib.ListN.{length}
 use Rattle.rules.specs.declared.Gate.{Gate}
 use Rattle.rules.specs.declared.Gate.the-variants.{Min, Max}
-use Rattle.rules.specs.Bytes.{at}
+use Rattle.rules.specs.Bytes.{at, tabulate}
 use Rattle.rules.specs.Cell.{cells, over}
-use Rattle.rules.specs.Join.{exchangeBlockFor}
+use Rattle.rules.specs.Join.{complement, exchangeBlockFor}
+use Rattle.laws.proofs.CellLaws.{cells-pos}
 use Rattle.laws.proofs.TableLaws.{at-tabulate}
 use Rattle.laws.proofs.GateLaws.{complement-at}
 use Rattle.laws.proofs.LineLaws.{over-same}
-use Rattle.tables.specs.Part.{part, Laid, Two}
+use Rattle.tables.specs.Part.{part, Laid, Two, Shaped}
 use Rattle.tables.specs.Line.{best}
-use Rattle.tables.proofs.PartLaws.{part-at, laid-then, laid-same}
+use Rattle.tables.proofs.PartLaws.{part-at, laid-then, laid-as}
 use Rattle.tables.proofs.LineLaws.{best-bound}
+use Rattle.tables.proofs.LendLaws.{lent, lent-part, lent-length, back, laid-back}
+use Rattle.extremes.specs.Grades.{source, Reads}
+use Rattle.extremes.proofs.GradesLaws.{there}
 use Rattle.join_tables.specs.Parts.{side, turned, Below, Holds, Placed, Within, Exchanging, Exchanged}
 use Rattle.join_tables.proofs.HoldLaws.{laid-within, within-then, stays-below}
 
@@ -35,14 +41,18 @@ turned-holds Min ks m {w} {a} {to} {n} {t} {w′} e l h =
           ∙ sym (complement-at ks m t c (omega arith));
     }
 
+-- what each grade lacks to the greatest, over the places
+pub lacking : (ks : List ℕ) (m : ℕ) (x : List ℕ) {a n : ℕ} {w w′ : List ℕ} → n ≡ cells ks → Laid w a (tabulate n (λ c. m - 1 - at x c)) n w′ → Laid w a (complement ks m x) n w′
+lacking ks m x e l = laid-as (ap (λ (i : ℕ). tabulate i (λ c. m - 1 - at x c)) e) l
+
 -- limits exchanged: the two sources lie within them
 pub side-in : (gate : Gate) {a x y : ℕ} (lo hi : ℕ) → a ≡ side gate x y → lo ≤ x → lo ≤ y → x ≤ hi → y ≤ hi → (lo ≤ a) × (a ≤ hi)
 side-in Max lo hi e p q r u = (omega arith, omega arith)
 side-in Min lo hi e p q r u = (omega arith, omega arith)
 
 module _ {w : List ℕ} {m from to n : ℕ} (p : Exchanging w m from to n) where
-  pub source : (a d : ℕ) → from ≤ a → a ≤ from + n → to ≤ d → d ≤ to + n → (1 ≤ m) × Two w a d n × Below w a n m
-  source a d la ha ld hd =
+  pub side-ready : (a d : ℕ) → from ≤ a → a ≤ from + n → to ≤ d → d ≤ to + n → (1 ≤ m) × Two w a d n × Below w a n m
+  side-ready a d la ha ld hd =
       let s = p .parts .src in
       let t = p .parts .dst in (
         p .some,
@@ -95,9 +105,33 @@ module _ {w : List ℕ} {m from to n : ℕ} (p : Exchanging w m from to n) where
         kept = exchanged-kept l k;
       }
 
--- an extreme over a set, of a table that was just laid
+-- an extreme over a set: of a table that was just laid
 pub over-laid : (greatest : Bool) (ks : List ℕ) (set : ℕ) {n a : ℕ} {w t v w′ : List ℕ} → n ≡ cells ks → Laid w a t n v
-    → Laid v a (over (best greatest) ks set (part v a (cells ks))) (cells ks) w′ → Laid w a (over (best greatest) ks set t) n w′
+    → Laid v a (over (best greatest) ks set (part v a n)) n w′ → Laid w a (over (best greatest) ks set t) n w′
 over-laid greatest ks set {n} {a} {w} {t} {v} {w′} e l k =
-    laid-same _ (laid-then l (subst (λ (i : ℕ). Laid v a (over (best greatest) ks set (part v a (cells ks))) i w′) (sym e) k))
-    (λ c h. ap (λ (f : List ℕ). at f c) (over-same (best-bound greatest) ks set (part v a (cells ks)) t (λ c h. part-at v a (cells ks) c h ∙ l .here c (omega arith))))
+    laid-as (over-same (best-bound greatest) ks set (part v a n) t (λ c h. part-at v a n c (omega arith) ∙ l .here c (omega arith))) (laid-then l k)
+
+-- one that is made in a part which is lent on: of that part, or of a table x that was lent
+module _ {ks : List ℕ} (shaped : Shaped ks) {n : ℕ} (e : n ≡ cells ks) (a : ℕ) (w : List ℕ) (room : a + n ≤ length w) where
+  some : 1 ≤ n
+  some = omega (arith, cells-pos ks (shaped .some))
+
+  pub reads-part : Reads [] (lent a n w) 0 0 n
+  reads-part = let k = lent-length a n w room in record { src = omega arith; dst = omega arith; aside = inl refl }
+
+  pub reads-lent : (x : List ℕ) → n ≤ length x → Reads x (lent a n w) 0 0 n
+  reads-lent [] le = absurd (omega (arith, some))
+  reads-lent (g ∷ gs) le = let k = lent-length a n w room in record { src = omega arith; dst = omega arith; aside = tt }
+
+  module _ (greatest : Bool) (set : ℕ) {v : List ℕ} where
+    over-back : {u t : List ℕ} → u ≡ t → Laid (lent a n w) 0 (over (best greatest) ks set (part u 0 n)) n v → Laid w a (over (best greatest) ks set t) n (back a n w v)
+    over-back {u} {t} q l =
+        let k = laid-back a n room (omega arith) l in
+        laid-as (over-same (best-bound greatest) ks set (part u 0 n) t (λ c h. part-at u 0 n c (omega arith) ∙ ap (at u) (zero-add c) ∙ ap (λ (y : List ℕ). at y c) q)) (rw (add-zero a) at k)
+
+    pub over-part : Laid (lent a n w) 0 (over (best greatest) ks set (part (lent a n w) 0 n)) n v → Laid w a (over (best greatest) ks set (part w a n)) n (back a n w v)
+    over-part = over-back (lent-part a n w)
+
+    pub over-lent : (x : List ℕ) → n ≤ length x → Laid (lent a n w) 0 (over (best greatest) ks set (part (source x (lent a n w)) 0 n)) n v
+        → Laid w a (over (best greatest) ks set x) n (back a n w v)
+    over-lent x le = over-back (there x (lent a n w) (λ q. omega (arith, some)))

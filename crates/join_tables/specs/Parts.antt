@@ -58,6 +58,14 @@ pub record Work (w : List ℕ) (ks : List ℕ) (n : ℕ) : Type 0 where
   pub count : n ≡ cells ks
   pub room : 8 * n ≤ length w
 
+-- limits that are lent: n grades each
+pub record Lent (lower upper : List ℕ) (m n : ℕ) : Type 0 where
+  pub some : 1 ≤ m
+  pub low : n ≤ length lower
+  pub high : n ≤ length upper
+  pub lows : (c : ℕ) → c < n → at lower c ≤ m - 1
+  pub highs : (c : ℕ) → c < n → at upper c ≤ m - 1
+
 -- the join by a gate under the limits l: what its two blocks are made from
 module _ (gate : Gate) (ks : List ℕ) (m s t : ℕ) (l : Limits) (n : ℕ) where
   pub record Begun (w : List ℕ) : Type 0 where
@@ -67,11 +75,6 @@ module _ (gate : Gate) (ks : List ℕ) (m s t : ℕ) (l : Limits) (n : ℕ) wher
   pub record Opened (w : List ℕ) : Type 0 where
     pub begun : Begun w
     pub firsts : Holds w (4 * n) (uA ks s t (exchangeFor gate ks m l .lower) (exchangeFor gate ks m l .upper)) n
-
--- whatever limits stood in parts 2 and 3, exchanged: their join is open
-pub record Uppers (ks : List ℕ) (s t n : ℕ) (w w′ : List ℕ) : Type 0 where
-  pub opened : (gate : Gate) (m : ℕ) (l : Limits) → Placed w (2 * n) (exchangeFor gate ks m l) n → Opened gate ks m s t l n w′
-  pub kept : Within w (4 * n) (6 * n) w′
 
 -- whatever join is open: the answer is whether it exists
 pub record Existing (n : ℕ) (w : List ℕ) (r : Bool) : Type 0 where
@@ -88,12 +91,12 @@ pub record Second (gate : Gate) (ks : List ℕ) (m s n : ℕ) (w w′ : List ℕ
   pub limits : (t : ℕ) (l : Limits) (g : List ℕ) → Begun gate ks m s t l n w → Holds w n g n → Placed w′ (6 * n) (secondLimits gate ks m s t l g) n
   pub kept : Within w (3 * n) (8 * n) w′
 
--- whatever table stood there: the answer is whether it is blind to the set
-pub record Blinded (ks : List ℕ) (set from to n : ℕ) (w : List ℕ) (r : Bool) (w′ : List ℕ) : Type 0 where
-  pub answer : (g : List ℕ) → Holds w from g n → r ≡ blindTest ks set g
+-- the answer is whether the table g is blind to the set
+pub record Blinded (ks : List ℕ) (set to n : ℕ) (g w : List ℕ) (r : Bool) (w′ : List ℕ) : Type 0 where
+  pub answer : r ≡ blindTest ks set g
   pub kept : Within w to (to + n) w′
 
--- whatever limits stood in parts 6 and 7, and whatever block in part 1: the answer is row 9's
-pub record Judged (ks : List ℕ) (t n : ℕ) (w : List ℕ) (r : Bool) (w′ : List ℕ) : Type 0 where
-  pub answer : (l : Limits) (g : List ℕ) → Placed w (6 * n) l n → Holds w n g n → r ≡ blockSound ks t l g
+-- whatever limits stood in parts 6 and 7: the answer is row 9's for the block g
+pub record Judged (ks : List ℕ) (t n : ℕ) (g w : List ℕ) (r : Bool) (w′ : List ℕ) : Type 0 where
+  pub answer : (l : Limits) → Placed w (6 * n) l n → r ≡ blockSound ks t l g
   pub kept : Within w (3 * n) (4 * n) w′

@@ -1,16 +1,18 @@
 // Joins on parts of one work buffer. Every part has n bytes, one for each cell of the places ks.
-// A join of either gate is made as a max join, on limits that `exchange` turns before and after.
-ghost use Prim.Native.Nat.{_+_, _*_, _≤_};
+// A join of either gate is made as a max join: `open_limits` turns the limits before, `exchange` after.
+ghost use Prim.Native.Nat.{ℕ, _+_, _*_, _≤_};
 ghost use mathlib.Core.Path.{_≡_};
+ghost use mathlib.Core.List.{List};
 ghost use lib.ListN.{length};
 ghost use Rattle.rules.specs.Bytes.{at, tabulate};
-ghost use Rattle.rules.specs.Cell.{cells, greatestOver, leastOver};
-ghost use Rattle.rules.specs.Join.{above};
+ghost use Rattle.rules.specs.Cell.{cells, over, greatestOver, leastOver};
+ghost use Rattle.rules.specs.Limits.{limitsOf};
+ghost use Rattle.rules.specs.Join.{above, exchangeFor};
+ghost use Rattle.tables.specs.Line.{best};
 ghost use Rattle.tables.specs.Part.{part, Laid, Two, Shaped};
-ghost use Rattle.join_tables.specs.Parts.{side, turned, Below, Exchanging, Exchanged, Work, Uppers, Existing, First, Second, Blinded, Judged};
+ghost use Rattle.join_tables.specs.Parts.{side, turned, Below, Holds, Exchanging, Exchanged, Work, Lent, Opened, Existing, First, Second, Blinded, Judged};
 use rules::Gate;
 use rules::PLACES;
-use tables::extremes;
 use tables::fill;
 use tables::tests;
 
@@ -46,13 +48,29 @@ pub fn exchange(w: &mut [u8], gate: Gate, m: u8, from: usize, to: usize, n: usiz
     exchange_block(w, gate, m, side(gate, next, from), to + n, n);
 }
 
-// The least over a set: of upper limits, those of the block that is blind to it.
-pub fn least(w: &mut [u8], ks: [u8; PLACES], set: u8, from: usize, to: usize, n: usize)
-    requires { ⌜ Shaped ks × (n ≡ cells ks) × Two (now w) from to n ⌝ }
-    ensures { λ _. ⌜ Laid (now (w .entry)) to (leastOver ks set (part (now (w .entry)) from n)) n (now (w .exit)) ⌝ }
+// The extreme over a set of the table at `to`, in its place.
+fn over_part(w: &mut [u8], greatest: bool, ks: [u8; PLACES], set: u8, to: usize, n: usize)
+    requires { ⌜ Shaped ks × (n ≡ cells ks) × (to + n ≤ length (now w)) ⌝ }
+    ensures { λ _. ⌜ Laid (now (w .entry)) to (over (best greatest) ks set (part (now (w .entry)) to n)) n (now (w .exit)) ⌝ }
 {
-    fill::copy(w, from, to, n);
-    extremes::over_set(w, false, ks, set, n, to);
+    let none = [0u8; 0];
+    extremes::over_set(&none, &mut w[to..to + n], greatest, ks, set, n, 0, 0);
+}
+
+// The extreme over a set of a lent table, at `to`.
+fn over_lent(
+    w: &mut [u8],
+    table: &[u8],
+    greatest: bool,
+    ks: [u8; PLACES],
+    set: u8,
+    to: usize,
+    n: usize,
+)
+    requires { ⌜ Shaped ks × (n ≡ cells ks) × (n ≤ length (now table)) × (to + n ≤ length (now w)) ⌝ }
+    ensures { λ _. ⌜ Laid (now (w .entry)) to (over (best greatest) ks set (now (table .entry))) n (now (w .exit)) ⌝ }
+{
+    extremes::over_set(table, &mut w[to..to + n], greatest, ks, set, n, 0, 0);
 }
 
 // The greatest, over a set, of the low grades that are above the high table's.
@@ -69,17 +87,63 @@ pub fn greatest_above(
     ensures { λ _. ⌜ Laid (now (w .entry)) to (greatestOver ks set (tabulate n (λ c. above (at (part (now (w .entry)) low n) c) (at (part (now (w .entry)) high n) c)))) n (now (w .exit)) ⌝ }
 {
     fill::keep_above(w, low, high, to, n);
-    extremes::over_set(w, true, ks, set, n, to);
+    over_part(w, true, ks, set, to, n);
 }
 
-// From limits in parts 2 and 3, exchanged: part 4 becomes the first block's upper limits, part 5 the
-// second's. The join is then open.
-pub fn uppers(w: &mut [u8], ks: [u8; PLACES], s: u8, t: u8, n: usize)
-    requires { ⌜ Work (now w) ks n ⌝ }
-    ensures { λ _. ⌜ Uppers ks s t n (now (w .entry)) (now (w .exit)) ⌝ }
+// Of lent limits, the lower ones as the max join wants them, at part 2.
+fn load_lower(w: &mut [u8], lower: &[u8], upper: &[u8], gate: Gate, m: u8, n: usize)
+    requires { ⌜ Lent (now lower) (now upper) m n × (3 * n ≤ length (now w)) ⌝ }
+    ensures { λ _. ⌜ ((ks : List ℕ) → n ≡ cells ks → Laid (now (w .entry)) (2 * n) (exchangeFor gate ks m (limitsOf (now (lower .entry)) (now (upper .entry))) .lower) n (now (w .exit))) ⌝ }
 {
-    least(w, ks, t, 3 * n, 4 * n, n);
-    least(w, ks, s, 3 * n, 5 * n, n);
+    match gate {
+        Gate::Max => fill::load(w, lower, 2 * n, n),
+        Gate::Min => fill::load_complement(w, upper, m - 1, 2 * n, n),
+    }
+}
+
+// The least, over a set, of the upper ones, at `to`: the upper limits of the block that is blind to the set.
+fn least_upper(
+    w: &mut [u8],
+    lower: &[u8],
+    upper: &[u8],
+    gate: Gate,
+    ks: [u8; PLACES],
+    m: u8,
+    set: u8,
+    to: usize,
+    n: usize,
+)
+    requires { ⌜ Shaped ks × (n ≡ cells ks) × Lent (now lower) (now upper) m n × (to + n ≤ length (now w)) ⌝ }
+    ensures { λ _. ⌜ Laid (now (w .entry)) to (leastOver ks set (exchangeFor gate ks m (limitsOf (now (lower .entry)) (now (upper .entry))) .upper)) n (now (w .exit)) ⌝ }
+{
+    match gate {
+        Gate::Max => over_lent(w, upper, false, ks, set, to, n),
+        Gate::Min => {
+            fill::load_complement(w, lower, m - 1, to, n);
+            over_part(w, false, ks, set, to, n);
+        }
+    }
+}
+
+// Opens the join under lent limits: part 2 becomes the lower ones, part 4 the first block's upper limits, part 5
+// the second's.
+pub fn open_limits(
+    w: &mut [u8],
+    lower: &[u8],
+    upper: &[u8],
+    gate: Gate,
+    ks: [u8; PLACES],
+    m: u8,
+    s: u8,
+    t: u8,
+    n: usize,
+)
+    requires { ⌜ Work (now w) ks n × Lent (now lower) (now upper) m n ⌝ }
+    ensures { λ _. ⌜ Opened gate ks m s t (limitsOf (now (lower .entry)) (now (upper .entry))) n (now (w .exit)) ⌝ }
+{
+    load_lower(w, lower, upper, gate, m, n);
+    least_upper(w, lower, upper, gate, ks, m, t, 4 * n, n);
+    least_upper(w, lower, upper, gate, ks, m, s, 5 * n, n);
 }
 
 // Whether an open join exists. It stops at the first cell that refuses.
@@ -110,22 +174,29 @@ pub fn second_limits(w: &mut [u8], gate: Gate, ks: [u8; PLACES], m: u8, s: u8, n
     exchange(w, gate, m, 4 * n, 6 * n, n);
 }
 
-// Whether the table at `from` does not depend on a set: then it is its own greatest over the set,
-// which is made at `to`.
-pub fn blind(w: &mut [u8], ks: [u8; PLACES], set: u8, from: usize, to: usize, n: usize) -> bool
-    requires { ⌜ Shaped ks × (n ≡ cells ks) × Two (now w) from to n ⌝ }
-    ensures { λ r. ⌜ Blinded ks set from to n (now (w .entry)) r (now (w .exit)) ⌝ }
+// Whether a lent table, which stands at `from` too, does not depend on a set: then it is its own greatest
+// over the set, which is made at `to`.
+pub fn blind(
+    w: &mut [u8],
+    g: &[u8],
+    ks: [u8; PLACES],
+    set: u8,
+    from: usize,
+    to: usize,
+    n: usize,
+) -> bool
+    requires { ⌜ Shaped ks × (n ≡ cells ks) × Two (now w) from to n × (n ≤ length (now g)) × Holds (now w) from (now g) n ⌝ }
+    ensures { λ r. ⌜ Blinded ks set to n (now (g .entry)) (now (w .entry)) r (now (w .exit)) ⌝ }
 {
-    fill::copy(w, from, to, n);
-    extremes::over_set(w, true, ks, set, n, to);
+    over_lent(w, g, true, ks, set, to, n);
     tests::fits(w, to, from, n)
 }
 
-// Whether the first block in part 1 is within its limits, in parts 6 and 7, and does not depend on t.
-// Part 3 is lost.
-pub fn block_sound(w: &mut [u8], ks: [u8; PLACES], t: u8, n: usize) -> bool
-    requires { ⌜ Work (now w) ks n ⌝ }
-    ensures { λ r. ⌜ Judged ks t n (now (w .entry)) r (now (w .exit)) ⌝ }
+// Whether the first block g, which part 1 holds too, is within its limits, in parts 6 and 7, and does not depend
+// on t. Part 3 is lost.
+pub fn block_sound(w: &mut [u8], g: &[u8], ks: [u8; PLACES], t: u8, n: usize) -> bool
+    requires { ⌜ Work (now w) ks n × (n ≤ length (now g)) × Holds (now w) n (now g) n ⌝ }
+    ensures { λ r. ⌜ Judged ks t n (now (g .entry)) (now (w .entry)) r (now (w .exit)) ⌝ }
 {
     if !tests::fits(w, 6 * n, n, n) {
         return false;
@@ -133,5 +204,5 @@ pub fn block_sound(w: &mut [u8], ks: [u8; PLACES], t: u8, n: usize) -> bool
     if !tests::fits(w, n, 7 * n, n) {
         return false;
     }
-    blind(w, ks, t, n, 3 * n, n)
+    blind(w, g, ks, t, n, 3 * n, n)
 }

@@ -60,6 +60,16 @@ pub fn complement(w: &mut [u8], top: u8, from: usize, to: usize, n: usize)
     }
 }
 
+// The same, from the front of another buffer.
+pub fn load_complement(w: &mut [u8], from: &[u8], top: u8, to: usize, n: usize)
+    requires { ⌜ (n ≤ length (now from)) × (to + n ≤ length (now w)) × ((c : ℕ) → c < n → at (now from) c ≤ top) ⌝ }
+    ensures { λ _. ⌜ Laid (now (w .entry)) to (tabulate n (λ c. top - at (now (from .entry)) c)) n (now (w .exit)) ⌝ }
+{
+    for c in 0..n {
+        w[to + c] = top - from[c];
+    }
+}
+
 fn if_above(grade: u8, limit: u8) -> u8
     ensures { λ r. ⌜ r ≡ above grade limit ⌝ }
 {

@@ -1,6 +1,7 @@
 -- `join::second_given` meets its contract.
 use borrow.Author.Needs.{needs}
 use borrow.Author.Tests.{not-true, not-false}
+use Rattle.join_tables.proofs.HoldLaws.{laid-holds, loaded}
 use Rattle.join.proofs.OpenLaws.{first-ready, second-ready, incomplete, complete}
 use Rattle.join.proofs.second_given.Statement.{statement}
 use Rattle.join.proofs.second_given.Tie as tie
@@ -12,7 +13,7 @@ load-requires : tie.Need-load-requires
 load-requires c κs = search needs
 
 block-sound-requires : tie.Need-block-sound-requires
-block-sound-requires c κs = search needs
+block-sound-requires c κs = (search needs, c .before .before .before .before .before .before .before .before .before .before .before .pre .block, laid-holds (loaded (c .before .before .before .load .ensures)))
 
 same-length : tie.Need-same-length
 same-length c = search needs

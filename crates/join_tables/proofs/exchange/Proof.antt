@@ -2,7 +2,7 @@
 use Prim.Native.Nat.{_+_}
 use native.Mathlib.Omega.{arith}
 use borrow.Author.Needs.{needs}
-use Rattle.join_tables.proofs.TurnLaws.{side-in, source, exchanging-on, exchanged}
+use Rattle.join_tables.proofs.TurnLaws.{side-in, side-ready, exchanging-on, exchanged}
 use Rattle.join_tables.proofs.exchange.Statement.{statement}
 use Rattle.join_tables.proofs.exchange.Tie as tie
 
@@ -16,7 +16,7 @@ exchange-block-requires : tie.Need-exchange-block-requires
 exchange-block-requires c κs =
     let a = c .before .before .before .args in
     let i = side-in (a .gate) (a .from) (a .from + a .n) (c .side .ensures) (omega arith) (omega arith) (omega arith) (omega arith) in
-    source (c .before .before .before .pre) (c .side .result) (a .to) (i .0) (i .1) (omega arith) (omega arith)
+    side-ready (c .before .before .before .pre) (c .side .result) (a .to) (i .0) (i .1) (omega arith) (omega arith)
 
 side-requires-2 : tie.Need-side-requires-2
 side-requires-2 c κs = search needs
@@ -29,7 +29,7 @@ exchange-block-requires-2 c κs =
     let b = c .before .before .before .before .before .before .before .before in
     let a = b .args in
     let i = side-in (a .gate) (a .from) (a .from + a .n) (c .side2 .ensures) (omega arith) (omega arith) (omega arith) (omega arith) in
-    source (exchanging-on (b .pre) (c .before .before .before .before .exchange-block .ensures)) (c .side2 .result) (a .to + a .n) (i .0) (i .1) (omega arith) (omega arith)
+    side-ready (exchanging-on (b .pre) (c .before .before .before .before .exchange-block .ensures)) (c .side2 .result) (a .to + a .n) (i .0) (i .1) (omega arith) (omega arith)
 
 same-length : tie.Need-same-length
 same-length c = search needs
