@@ -1,6 +1,6 @@
 -- The whole grouping, from the pair that was found and the sets that grew from it.
 use Prim.Native.Nat.{ℕ, _<_}
-use mathlib.Core.Path.{_≡_, sym, _∙_, ap, ap₂, subst}
+use mathlib.Core.Path.{_≡_, refl, sym, _∙_, ap, ap₂, subst}
 use mathlib.Core.List.{List}
 use Rattle.rules.specs.Bytes.{numbersFrom}
 use Rattle.rules.specs.Cell.{cells, present, singleton}
@@ -22,6 +22,7 @@ module _ {w ks : List ℕ} {low high : ℕ} {r : Pair} (f : FirstPair w ks low h
         is = ap (grow (present ks) (joinsAt ks w low high) (numbersFrom 0 8)) (sym (ap pairSets e) ∙ f .is);
         held = tt;
         kept = kept-self w a b (cells ks);
+        off = λ q. refl;
       }
 
   module _ {i j : ℕ} (e : r ≡ APair i j) where
@@ -38,6 +39,7 @@ module _ {w ks : List ℕ} {low high : ℕ} {r : Pair} (f : FirstPair w ks low h
               ∙ ap (grow (present ks) (joinsAt ks w low high) (numbersFrom 0 8)) (ap₂ sets es et ∙ sym (ap pairSets e) ∙ f .is);
           held = g .held u h;
           kept = kept-then (st .kept) (g .kept);
+          off = λ q. cc;
         }
       where
         u : List ℕ

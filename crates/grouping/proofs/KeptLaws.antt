@@ -1,17 +1,21 @@
 -- What stays of a buffer in which two parts were written, and the tables that stand in the two.
-use Prim.Native.Nat.{ℕ, _+_, _≤_}
+use Prim.Native.Nat.{ℕ, _+_, _*_, _≤_, _<_}
 use mathlib.Core.Path.{_≡_, refl, sym, _∙_, ap, subst}
-use mathlib.Core.List.{List}
-use mathlib.Core.Logic.{inl, inr, ⊎-elim}
+use mathlib.Core.List.{List, []}
+use mathlib.Core.Logic.{_⊎_, inl, inr, ⊎-elim}
+use native.Mathlib.Nat.{zero-add, add-zero}
 use native.Mathlib.Omega.{arith}
 use lib.ListN.{length}
+use Rattle.rules.specs.Bytes.{at}
 use Rattle.rules.specs.Cell.{Positive, cells, singleton, insert, leastOver}
-use Rattle.laws.proofs.LineLaws.{over-insert}
+use Rattle.laws.proofs.LineLaws.{over-insert, over-same}
 use Rattle.laws.proofs.OverLaws.{min-bound}
 use Rattle.laws.proofs.TableLaws.{length-tabulateFrom}
 use Rattle.laws.proofs.TestLaws.{by-order}
 use Rattle.tables.specs.Part.{part, Laid, Apart, Two}
-use Rattle.tables.proofs.PartLaws.{part-length, part-same, laid-then, laid-part, laid-apart}
+use Rattle.tables.proofs.PartLaws.{part-at, part-same, laid-as, laid-part, laid-apart}
+use Rattle.tables.proofs.LendLaws.{lent, lent-length, lent-at, back, laid-back}
+use Rattle.extremes.specs.Grades.{Reads}
 use Rattle.grouping.specs.Growing.{Held, Kept, Space, Started}
 
 -- parts that lie apart, from either
@@ -63,23 +67,49 @@ least-laid : {w : List ℕ} (ks : List ℕ) (i b : ℕ) {w′ : List ℕ} (f : L
     → part w′ b (cells ks) ≡ leastOver ks (singleton i) f
 least-laid ks i b f l h = laid-part l h (length-tabulateFrom _ 0 (cells ks))
 
--- a copy taken over it
-pub copied-least : {w : List ℕ} (ks : List ℕ) {w′ w″ : List ℕ} (i : ℕ) {from to n : ℕ} → Two w from to (cells ks) → n ≡ cells ks → Laid w to (part w from n) n w′
-    → Laid w′ to (leastOver ks (singleton i) (part w′ to (cells ks))) (cells ks) w″ → Laid w to (leastOver ks (singleton i) (part w from (cells ks))) (cells ks) w″
-copied-least {w} ks {w′} {w″} i {from} {to} {n} p e l m =
-    let c : Laid w to (part w from (cells ks)) (cells ks) w′ = subst (λ (k : ℕ). Laid w to (part w from k) k w′) e l in
-    let q : part w′ to (cells ks) ≡ part w from (cells ks) = laid-part c (p .dst) (part-length w from (cells ks) (p .src)) in
-    subst (λ (f : List ℕ). Laid w to (leastOver ks (singleton i) f) (cells ks) w″) q (laid-then c m)
+-- k bytes from a on that are lent, of which the first n are taken over a condition: in their place or behind them
+module _ (w : List ℕ) (a k to n : ℕ) (h : a + k ≤ length w) (g : to + n ≤ k) where
+  pub lent-reads : (0 ≡ to) ⊎ (n ≤ to) → Reads [] (lent a k w) 0 to n
+  lent-reads x =
+      record {
+        src = omega (arith, lent-length a k w h);
+        dst = omega (arith, lent-length a k w h);
+        aside = ⊎-elim (λ q. inl q) (λ q. inr (inl (omega arith))) x;
+      }
 
-pub started : {w ks w′ w″ : List ℕ} (i j : ℕ) {high a b : ℕ} → Space w ks high a b → Laid w a (leastOver ks (singleton j) (part w high (cells ks))) (cells ks) w′
-    → Laid w′ b (leastOver ks (singleton i) (part w′ high (cells ks))) (cells ks) w″ → Started w ks i j high a b w″
-started {w} {ks} {w′} {w″} i j {high} {a} {b} p l m =
+  pub lent-least : (ks : List ℕ) (i : ℕ) {v : List ℕ} → n ≡ cells ks → Laid (lent a k w) to (leastOver ks (singleton i) (part (lent a k w) 0 n)) n v
+      → Laid w (a + to) (leastOver ks (singleton i) (part w a (cells ks))) (cells ks) (back a k w v)
+  lent-least ks i {v} e l =
+      subst (λ (c : ℕ). Laid w (a + to) (leastOver ks (singleton i) (part w a (cells ks))) c (back a k w v)) e
+      (laid-as (over-same min-bound ks (singleton i) (part (lent a k w) 0 n) (part w a (cells ks)) same) (laid-back a k h g l))
+    where
+      same : (c : ℕ) → c < cells ks → at (part (lent a k w) 0 n) c ≡ at (part w a (cells ks)) c
+      same c lt = part-at (lent a k w) 0 n c (omega arith) ∙ lent-at a k w (0 + c) (omega arith) ∙ ap (λ (j : ℕ). at w (a + j)) (zero-add c) ∙ sym (part-at w a (cells ks) c lt)
+
+-- the same where they are all that is lent
+module _ (w : List ℕ) (a n : ℕ) (h : a + n ≤ length w) where
+  pub in-place-reads : Reads [] (lent a n w) 0 0 n
+  in-place-reads = lent-reads w a n 0 n h (omega arith) (inl refl)
+
+  pub in-place : (ks : List ℕ) (i : ℕ) {v : List ℕ} → n ≡ cells ks → Laid (lent a n w) 0 (leastOver ks (singleton i) (part (lent a n w) 0 n)) n v
+      → Laid w a (leastOver ks (singleton i) (part w a (cells ks))) (cells ks) (back a n w v)
+  in-place ks i {v} e l =
+      subst (λ (b : ℕ). Laid w b (leastOver ks (singleton i) (part w a (cells ks))) (cells ks) (back a n w v)) (add-zero a) (lent-least w a n 0 n h (omega arith) ks i e l)
+
+-- two tables side by side
+pub beside : {w : List ℕ} {a n m : ℕ} → n ≡ m → a + 2 * n ≤ length w → Two w a (a + n) m
+beside e h = record { src = omega arith; dst = omega arith; apart = inl (omega arith) }
+
+-- the upper grades at high: over j at a, then over i in their own place
+pub started : {w ks w′ w″ : List ℕ} (i j : ℕ) {high a : ℕ} → Two w high a (cells ks) → Laid w a (leastOver ks (singleton j) (part w high (cells ks))) (cells ks) w′
+    → Laid w′ high (leastOver ks (singleton i) (part w′ high (cells ks))) (cells ks) w″ → Started w ks i j high a high w″
+started {w} {ks} {w′} {w″} i j {high} {a} p l m =
     record {
       held = record {
-        first = laid-apart (same-apart (l .len) (p .both)) m ∙ least-laid ks j a (part w high (cells ks)) l (p .first .dst);
-        second = least-laid ks i b (part w′ high (cells ks)) m (let d = p .second .dst in let e = l .len in omega arith) ∙ ap (leastOver ks (singleton i)) (laid-apart (p .first) l);
+        first = laid-apart (same-apart (l .len) (turn-apart p)) m ∙ least-laid ks j a (part w high (cells ks)) l (p .dst);
+        second = least-laid ks i high (part w′ high (cells ks)) m (let s = p .src in let e = l .len in omega arith) ∙ ap (leastOver ks (singleton i)) (laid-apart p l);
       };
-      kept = kept-then (kept-turn (kept-laid b l)) (kept-laid a m);
+      kept = kept-then (kept-turn (kept-laid high l)) (kept-laid a m);
     }
 
 -- condition i added to s

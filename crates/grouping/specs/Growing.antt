@@ -63,8 +63,9 @@ abbrev pub FoundHeld : List ℕ → List ℕ → ℕ → ℕ → List ℕ → Fo
 FoundHeld ks u a b w Nothing = Unit {0}
 FoundHeld ks u a b w (Some p) = Held ks u (p .s) (p .t) a b w
 
--- the grouping under the limits at low and at high, with its tables at a and b
+-- the grouping under the limits at low and at high, with its tables at a and b; where there is none, nothing is written
 pub record Grouped (w ks : List ℕ) (low high a b : ℕ) (r : Found) (w′ : List ℕ) : Type 0 where
   pub is : foundSets r ≡ grouping (present ks) (joinsAt ks w low high) (numbersFrom 0 8)
   pub held : FoundHeld ks (part w high (cells ks)) a b w′ r
   pub kept : Kept w a b (cells ks) w′
+  pub off : r ≡ Nothing → w′ ≡ w

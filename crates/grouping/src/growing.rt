@@ -4,43 +4,26 @@ use crate::Sets;
 use crate::joins;
 use places::sets;
 use rules::PLACES;
-use tables::extremes;
-use tables::fill;
-ghost use Prim.Native.Nat.{_<_};
+ghost use Prim.Native.Nat.{_+_, _*_, _≤_, _<_};
 ghost use mathlib.Core.Path.{_≡_};
 ghost use mathlib.Core.Bool.{false};
+ghost use lib.ListN.{length};
 ghost use Rattle.rules.specs.Bytes.{numbersFrom};
-ghost use Rattle.rules.specs.Cell.{cells, present, has, singleton, leastOver};
+ghost use Rattle.rules.specs.Cell.{cells, present, has};
 ghost use Rattle.tables.specs.Line.{Counts};
-ghost use Rattle.tables.specs.Part.{part, Laid, Shaped, Two};
+ghost use Rattle.tables.specs.Part.{Shaped};
 ghost use Rattle.rules.specs.Stage.{addCondition, grow};
 ghost use Rattle.grouping.specs.Growing.{setsOf, Space, Started, Tried, Grows, inOrder};
 
-// The table of n cells at `from` taken over condition i, at `to`.
-fn least_over(w: &mut [u8], ks: [u8; PLACES], i: usize, n: usize, from: usize, to: usize)
-    requires { ⌜ (i < 8) × (n ≡ cells ks) × Shaped ks × Two (now w) from to (cells ks) ⌝ }
-    ensures { λ _. ⌜ Laid (now (w .entry)) to (leastOver ks (singleton i) (part (now (w .entry)) from (cells ks))) (cells ks) (now (w .exit)) ⌝ }
+// The tables of the sets of i alone and of j alone, from the upper grades at `high`: those over j behind
+// them, then those over i in their place. The grades stand in the part that is lent, so none are lent beside it.
+pub fn start_sets(w: &mut [u8], ks: [u8; PLACES], i: usize, j: usize, n: usize, high: usize)
+    requires { ⌜ (i < 8) × (j < 8) × (n ≡ cells ks) × Shaped ks × (high + 2 * n ≤ length (now w)) ⌝ }
+    ensures { λ _. ⌜ Started (now (w .entry)) ks i j high (high + n) high (now (w .exit)) ⌝ }
 {
-    fill::copy(w, from, to, n);
-    extremes::over_one(w, false, ks, i, n, places::step(ks, i), to);
-}
-
-// The tables of the sets of i alone and of j alone.
-pub fn start_sets(
-    w: &mut [u8],
-    ks: [u8; PLACES],
-    i: usize,
-    j: usize,
-    n: usize,
-    high: usize,
-    a: usize,
-    b: usize,
-)
-    requires { ⌜ (i < 8) × (j < 8) × (n ≡ cells ks) × Space (now w) ks high a b ⌝ }
-    ensures { λ _. ⌜ Started (now (w .entry)) ks i j high a b (now (w .exit)) ⌝ }
-{
-    least_over(w, ks, j, n, high, a);
-    least_over(w, ks, i, n, high, b);
+    let none = [0u8; 0];
+    extremes::over_one(&none, &mut w[high..high + 2 * n], false, ks, j, n, 0, n);
+    extremes::over_one(&none, &mut w[high..high + n], false, ks, i, n, 0, 0);
 }
 
 // Adds condition i to the set whose table is at `grow`, if that may be: whether it was.
@@ -58,7 +41,8 @@ fn try_add(
     ensures { λ r. ⌜ Tried (now (w .entry)) ks i low keep grow r (now (w .exit)) ⌝ }
 {
     if joins::may_add(w, ks, i, n, step, low, keep, grow) {
-        extremes::over_one(w, false, ks, i, n, step, grow);
+        let none = [0u8; 0];
+        extremes::over_one(&none, &mut w[grow..grow + n], false, ks, i, n, 0, 0);
         return true;
     }
     false

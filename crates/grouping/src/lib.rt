@@ -5,6 +5,7 @@ pub mod joins;
 pub mod search;
 
 use rules::PLACES;
+ghost use Prim.Native.Nat.{_+_};
 ghost use mathlib.Core.Path.{_≡_};
 ghost use Rattle.rules.specs.Cell.{cells};
 ghost use Rattle.rules.specs.Stage.{difference, keepsMax};
@@ -28,29 +29,21 @@ pub enum Found {
     Sets(Sets),
 }
 
-// The grouping under the limits of n cells at low and at high, and, where sets are found, the least upper
-// grades over t at a and over s at b.
-pub fn group(
-    w: &mut [u8],
-    ks: [u8; PLACES],
-    n: usize,
-    low: usize,
-    high: usize,
-    a: usize,
-    b: usize,
-) -> Found
-    requires { ⌜ (n ≡ cells ks) × Space (now w) ks low a b × Space (now w) ks high a b ⌝ }
-    ensures { λ r. ⌜ Grouped (now (w .entry)) ks low high a b r (now (w .exit)) ⌝ }
+// The grouping under the limits of n cells at low and at high. Where sets are found, the least upper grades over
+// t stand behind the upper limits and those over s in their place; else every byte is as it was.
+pub fn group(w: &mut [u8], ks: [u8; PLACES], n: usize, low: usize, high: usize) -> Found
+    requires { ⌜ (n ≡ cells ks) × Space (now w) ks low (high + n) high ⌝ }
+    ensures { λ r. ⌜ Grouped (now (w .entry)) ks low high (high + n) high r (now (w .exit)) ⌝ }
 {
     let Pair::Found(i, j) = search::first_pair(w, ks, n, low, high) else {
         return Found::Nothing;
     };
-    growing::start_sets(w, ks, i, j, n, high, a, b);
+    growing::start_sets(w, ks, i, j, n, high);
     let first = Sets {
         s: places::sets::singleton(i),
         t: places::sets::singleton(j),
     };
-    Found::Sets(growing::grow(w, ks, n, first, low, a, b))
+    Found::Sets(growing::grow(w, ks, n, first, low, high + n, high))
 }
 
 // How far apart two counts are.

@@ -20,7 +20,7 @@ use Rattle.tables.proofs.PartLaws.{part-length, laid-as, laid-part, laid-apart}
 use Rattle.join_tables.specs.Parts.{turned, Below}
 use Rattle.join_tables.proofs.HoldLaws.{laid-within}
 use Rattle.join_tables.proofs.TurnLaws.{below-part}
-use Rattle.join_tables.proofs.StepLaws.{before, behind, above-below, grades-below, grades-behind}
+use Rattle.join_tables.proofs.StepLaws.{before, behind, above-below, grades-below}
 use Rattle.grouping.specs.Joining.{stageAt}
 use Rattle.stage_drops.specs.Working.{Room}
 use Rattle.stage_blocks.specs.Blocks.{stageOf, Clear, Source, LimitsRoom, LimitsLaid, FirstRoom, FirstLaid, SecondRoom, SecondLaid, JoinedRoom, JoinedLaid}
@@ -30,9 +30,9 @@ use Rattle.stage_drops.proofs.DropLaws.{fewer-shaped}
 count-part : {w w′ : List ℕ} {a n k : ℕ} (f : ℕ → List ℕ) → n ≡ k → a + k ≤ length w → length (f k) ≡ k → Laid w a (f n) n w′ → part w′ a k ≡ f k
 count-part {w} {w′} {a} f e h q l = laid-part (subst (λ (i : ℕ). Laid w a (f i) i w′) e l) h q
 
--- part i, there being as many cells as a part has bytes
-pub there : (w : List ℕ) {c k : ℕ} (i : ℕ) → c ≡ k → part w (i * c) k ≡ part w (i * k) k
-there w {c} {k} i e = ap (λ (x : ℕ). part w (i * x) k) e
+-- a part at f c, there being as many cells as a part has bytes
+pub there : (w : List ℕ) {c k : ℕ} (f : ℕ → ℕ) → c ≡ k → part w (f c) k ≡ part w (f k) k
+there w {c} {k} f e = ap (λ (x : ℕ). part w (f x) k) e
 
 -- two tables moved to 8 × c
 module _ {w ks b : List ℕ} {c k : ℕ} (r : LimitsRoom w ks b c) (low high : ℕ) (hl : low + cells ks ≤ 8 * c) (hh : high + cells ks ≤ 8 * c) (e : k ≡ cells b) where
@@ -69,13 +69,13 @@ pub laid-gate : {gate g : Gate} {ks b w w′ : List ℕ} {c : ℕ} (m low high :
     → LimitsLaid ks b (exchangeFor gate ks m (stageAt ks w low high .limits)) c w w′
 laid-gate {ks = ks} {b} {w} {w′} {c} m low high e x = subst (λ (g : Gate). LimitsLaid ks b (exchangeFor g ks m (stageAt ks w low high .limits)) c w w′) (sym e) x
 
-clear-front : {a n c : ℕ} → a + n ≤ 2 * c → Clear a n c
+clear-front : {a n c : ℕ} → a + n ≤ 3 * c → Clear a n c
 clear-front h = record { inside = omega arith; aside = inl h }
 
-clear-back : {a n c : ℕ} → 4 * c ≤ a → a + n ≤ 8 * c → Clear a n c
+clear-back : {a n c : ℕ} → 5 * c ≤ a → a + n ≤ 8 * c → Clear a n c
 clear-back h i = record { inside = i; aside = inr h }
 
-clear-apart : {w : List ℕ} {a k c : ℕ} (d n : ℕ) → 8 * c ≤ length w → Clear a k c → 2 * c ≤ d → d + n ≤ 4 * c → Apart w a k d n
+clear-apart : {w : List ℕ} {a k c : ℕ} (d n : ℕ) → 8 * c ≤ length w → Clear a k c → 3 * c ≤ d → d + n ≤ 5 * c → Apart w a k d n
 clear-apart d n r h lo hi =
     let i = h .inside in
     record { src = omega arith; dst = omega arith; apart = ⊎-elim (λ x. inl (omega arith)) (λ x. inr (omega arith)) (h .aside) }
@@ -84,9 +84,9 @@ complement-part : {w w′ : List ℕ} (ks : List ℕ) (m from : ℕ) {to n : ℕ
     → part w′ to (cells ks) ≡ complement ks m (part w from (cells ks))
 complement-part {w} ks m from e h l = count-part (λ i. tabulate i (λ k. m - 1 - at (part w from i) k)) e h (length-tabulateFrom _ 0 (cells ks)) l
 
--- for min they are exchanged, in parts 2 and 3
+-- for min they are exchanged, in parts 3 and 4
 module _ {w ks b : List ℕ} {m c low high : ℕ} (r : LimitsRoom w ks b c) (lo : Source w low (cells ks) m c) (hi : Source w high (cells ks) m c) where
-  exchanging : {v : List ℕ} {a : ℕ} (d : ℕ) → length v ≡ length w → part v a c ≡ part w a c → Source w a (cells ks) m c → 2 * c ≤ d → d + c ≤ 4 * c
+  exchanging : {v : List ℕ} {a : ℕ} (d : ℕ) → length v ≡ length w → part v a c ≡ part w a c → Source w a (cells ks) m c → 3 * c ≤ d → d + c ≤ 5 * c
       → Two v a d c × ((k : ℕ) → k < c → at (part v a c) k ≤ m - 1)
   exchanging {v} {a} d q p x low high =
       let o = r .own .own in
@@ -94,16 +94,16 @@ module _ {w ks b : List ℕ} {m c low high : ℕ} (r : LimitsRoom w ks b c) (lo 
       let y : Source w a c m c = subst (λ (i : ℕ). Source w a i m c) (sym (r .own .own)) x in
       (clear-apart d c (omega arith) (y .clear) low (omega arith), λ k h. rw p (below-part (y .grades) k h))
 
-  pub exchange-upper : Two w high (2 * c) c × ((k : ℕ) → k < c → at (part w high c) k ≤ m - 1)
-  exchange-upper = exchanging (2 * c) refl refl hi (omega arith) (omega arith)
+  pub exchange-upper : Two w high (3 * c) c × ((k : ℕ) → k < c → at (part w high c) k ≤ m - 1)
+  exchange-upper = exchanging (3 * c) refl refl hi (omega arith) (omega arith)
 
-  module _ {w₁ : List ℕ} (l : Laid w (2 * c) (tabulate c (λ k. m - 1 - at (part w high c) k)) c w₁) where
-    pub exchange-lower : Two w₁ low (3 * c) c × ((k : ℕ) → k < c → at (part w₁ low c) k ≤ m - 1)
+  module _ {w₁ : List ℕ} (l : Laid w (3 * c) (tabulate c (λ k. m - 1 - at (part w high c) k)) c w₁) where
+    pub exchange-lower : Two w₁ low (4 * c) c × ((k : ℕ) → k < c → at (part w₁ low c) k ≤ m - 1)
     exchange-lower =
-        exchanging (3 * c) (l .len) (laid-apart (exchanging (2 * c) refl refl lo (omega arith) (omega arith) .0) l) lo (omega arith) (omega arith)
+        exchanging (4 * c) (l .len) (laid-apart (exchanging (3 * c) refl refl lo (omega arith) (omega arith) .0) l) lo (omega arith) (omega arith)
 
-    module _ {w₂ : List ℕ} (j : Laid w₁ (3 * c) (tabulate c (λ k. m - 1 - at (part w₁ low c) k)) c w₂) where
-      pub exchanged-room : LimitsRoom w₂ ks b c × (2 * c + cells ks ≤ 8 * c) × (3 * c + cells ks ≤ 8 * c)
+    module _ {w₂ : List ℕ} (j : Laid w₁ (4 * c) (tabulate c (λ k. m - 1 - at (part w₁ low c) k)) c w₂) where
+      pub exchanged-room : LimitsRoom w₂ ks b c × (3 * c + cells ks ≤ 8 * c) × (4 * c + cells ks ≤ 8 * c)
       exchanged-room =
           let o = r .own .own in
           let u = r .own .room in
@@ -112,21 +112,21 @@ module _ {w ks b : List ℕ} {m c low high : ℕ} (r : LimitsRoom w ks b c) (lo 
           let q = j .len in
           (record { own = record { shaped = r .own .shaped; own = o; room = omega arith }; shaped = r .shaped; space = omega arith }, omega arith, omega arith)
 
-      pub laid-min : {w₃ : List ℕ} → LimitsLaid ks b (stageAt ks w₂ (2 * c) (3 * c) .limits) c w₂ w₃
+      pub laid-min : {w₃ : List ℕ} → LimitsLaid ks b (stageAt ks w₂ (3 * c) (4 * c) .limits) c w₂ w₃
           → LimitsLaid ks b (exchange ks m (stageAt ks w low high .limits)) c w w₃
       laid-min x =
           let o = r .own .own in
           let u = r .own .room in
           let p = l .len in
-          let stays : (a k : ℕ) → Clear a k c → part w₁ a k ≡ part w a k = λ a k h. laid-apart (clear-apart (2 * c) c u h (omega arith) (omega arith)) l in
-          let lower : part w₂ (2 * c) (cells ks) ≡ complement ks m (part w high (cells ks)) =
-          laid-apart (before (2 * c) (cells ks) (3 * c) c (omega arith) (omega arith)) j
+          let stays : (a k : ℕ) → Clear a k c → part w₁ a k ≡ part w a k = λ a k h. laid-apart (clear-apart (3 * c) c u h (omega arith) (omega arith)) l in
+          let lower : part w₂ (3 * c) (cells ks) ≡ complement ks m (part w high (cells ks)) =
+          laid-apart (before (3 * c) (cells ks) (4 * c) c (omega arith) (omega arith)) j
           ∙ complement-part ks m high (r .own .own) (omega arith) l in
-          let upper : part w₂ (3 * c) (cells ks) ≡ complement ks m (part w low (cells ks)) =
+          let upper : part w₂ (4 * c) (cells ks) ≡ complement ks m (part w low (cells ks)) =
           complement-part ks m low (r .own .own) (omega arith) j ∙ ap (complement ks m) (stays low (cells ks) (lo .clear)) in
           record {
             stage = x .stage ∙ ap₂ (λ (y z : List ℕ). stageOf b (each (moved ks b) (limitsOf y z))) lower upper;
-            kept = λ a k h. x .kept a k h ∙ laid-apart (clear-apart (3 * c) c (omega arith) h (omega arith) (omega arith)) j ∙ stays a k h;
+            kept = λ a k h. x .kept a k h ∙ laid-apart (clear-apart (4 * c) c (omega arith) h (omega arith) (omega arith)) j ∙ stays a k h;
             len = x .len ∙ j .len ∙ p;
           }
 
@@ -167,23 +167,23 @@ count-below {w} {a} {m = m} e b = subst (λ (i : ℕ). Below w a i m) e b
 
 -- the first block's table
 module _ {w ks : List ℕ} {m t c : ℕ} (r : FirstRoom w ks m t c) where
-  pub first-above : Shaped ks × (c ≡ cells ks) × Two w 0 (6 * c) c × Two w (5 * c) (6 * c) c
+  pub first-above : Shaped ks × (c ≡ cells ks) × Two w 0 (6 * c) c × Two w c (6 * c) c
   first-above =
       let o = r .own .own in
       let u = r .own .room in
-      (r .own .shaped, r .own .own, before 0 c (6 * c) c (omega arith) (omega arith), before (5 * c) c (6 * c) c (omega arith) (omega arith))
+      (r .own .shaped, r .own .own, before 0 c (6 * c) c (omega arith) (omega arith), before c c (6 * c) c (omega arith) (omega arith))
 
-  module _ {b w₁ : List ℕ} (p : b ≡ without t ks) (l : Laid w (6 * c) (greatestOver ks t (tabulate c (λ k. above (at (part w 0 c) k) (at (part w (5 * c) c) k)))) c w₁) where
-    pub first-limits : LimitsRoom w₁ ks b c × (1 ≤ m) × Source w₁ (6 * c) (cells ks) m c × Source w₁ (4 * c) (cells ks) m c
+  module _ {b w₁ : List ℕ} (p : b ≡ without t ks) (l : Laid w (6 * c) (greatestOver ks t (tabulate c (λ k. above (at (part w 0 c) k) (at (part w c c) k)))) c w₁) where
+    pub first-limits : LimitsRoom w₁ ks b c × (1 ≤ m) × Source w₁ (6 * c) (cells ks) m c × Source w₁ (2 * c) (cells ks) m c
     first-limits =
         let o = r .own .own in (
           limits-room t (r .own) (r .space) (l .len) p,
           r .some,
-          record { clear = clear-back (omega arith) (omega arith); grades = count-below (r .own .own) (above-below ks t (5 * c) (r .own .own) l (count-below (sym (r .own .own)) (r .lows))) },
-          record { clear = clear-back (omega arith) (omega arith); grades = grades-below (laid-within l) (omega arith) (r .firsts) },
+          record { clear = clear-back (omega arith) (omega arith); grades = count-below (r .own .own) (above-below ks t c (r .own .own) l (count-below (sym (r .own .own)) (r .lows))) },
+          record { clear = clear-front (omega arith); grades = grades-below (laid-within l) (omega arith) (r .firsts) },
         )
 
-    pub first-laid : (gate : Gate) {w₂ : List ℕ} → LimitsLaid ks b (exchangeFor gate ks m (stageAt ks w₁ (6 * c) (4 * c) .limits)) c w₁ w₂ → FirstLaid gate m ks t c w b w₂
+    pub first-laid : (gate : Gate) {w₂ : List ℕ} → LimitsLaid ks b (exchangeFor gate ks m (stageAt ks w₁ (6 * c) (2 * c) .limits)) c w₁ w₂ → FirstLaid gate m ks t c w b w₂
     first-laid gate {w₂} x =
         let o = r .own .own in
         let u = r .own .room in
@@ -192,12 +192,12 @@ module _ {w ks : List ℕ} {m t c : ℕ} (r : FirstRoom w ks m t c) where
         record {
           places = p;
           stage = λ s i f.
-              outside-laid gate m ks t (6 * c) (4 * c) i x p (above-part ks t 0 (5 * c) (r .own .own) (omega arith) l (f .second .lows) (there w 5 (r .own .own) ∙ f .second .seconds))
-              (stays (4 * c) (omega arith) ∙ there w 4 (r .own .own) ∙ f .firsts);
+              outside-laid gate m ks t (6 * c) (2 * c) i x p (above-part ks t 0 c (r .own .own) (omega arith) l (f .second .lows) (there w (λ i. i) (r .own .own) ∙ f .second .seconds))
+              (stays (2 * c) (omega arith) ∙ there w (λ i. 2 * i) (r .own .own) ∙ f .firsts);
           second = λ s i f.
               record {
                 lows = x .kept 0 (cells ks) (clear-front (omega arith)) ∙ stays 0 (omega arith) ∙ f .lows;
-                seconds = sym (there w₂ 5 (r .own .own)) ∙ x .kept (5 * c) (cells ks) (clear-back (omega arith) (omega arith)) ∙ stays (5 * c) (omega arith) ∙ there w 5 (r .own .own) ∙ f .seconds;
+                seconds = sym (there w₂ (λ i. i) (r .own .own)) ∙ x .kept c (cells ks) (clear-front (omega arith)) ∙ stays c (omega arith) ∙ there w (λ i. i) (r .own .own) ∙ f .seconds;
               };
           len = x .len ∙ l .len;
         }
@@ -224,13 +224,13 @@ module _ {w ks a : List ℕ} {m s c : ℕ} (r : SecondRoom w ks a m s c) where
         (r .some, before (6 * c) c (7 * c) c (omega arith) (omega arith), count-below (sym (r .own .own)) (moved-below ks (r .shaped) (r .grades) l₁))
 
     module _ {u w₂ : List ℕ} (l₂ : Laid w₁ (7 * c) u c w₂) where
-      pub second-above : Shaped ks × (c ≡ cells ks) × Two w₂ 0 c c × Two w₂ (7 * c) c c
+      pub second-above : Shaped ks × (c ≡ cells ks) × Two w₂ 0 (2 * c) c × Two w₂ (7 * c) (2 * c) c
       second-above =
           let o = r .own .own in
           let v = r .own .room in
           let q₁ = l₁ .len in
           let q₂ = l₂ .len in
-          (r .own .shaped, r .own .own, before 0 c c c (omega arith) (omega arith), behind (7 * c) c c c (omega arith) (omega arith))
+          (r .own .shaped, r .own .own, before 0 c (2 * c) c (omega arith) (omega arith), behind (7 * c) c (2 * c) c (omega arith) (omega arith))
 
       stays-in-both : (i : ℕ) → i + c ≤ 6 * c → part w₂ i (cells ks) ≡ part w i (cells ks)
       stays-in-both i h =
@@ -250,8 +250,8 @@ module _ {w ks a : List ℕ} {m s c : ℕ} (r : SecondRoom w ks a m s c) where
           count-part (λ i. turned gate i m (part w₁ (6 * c) i)) (r .own .own) (omega arith) (turned-length gate (cells ks) m _ (part-length w₁ (6 * c) (cells ks) (omega arith))) (laid-as h l₂)
           ∙ turned-block gate ks m _ ∙ ap (exchangeBlockFor gate ks m) first-block
 
-      module _ {b w₃ : List ℕ} (p : b ≡ without s ks) (l₃ : Laid w₂ c (greatestOver ks s (tabulate c (λ k. above (at (part w₂ 0 c) k) (at (part w₂ (7 * c) c) k)))) c w₃) where
-        pub second-limits : LimitsRoom w₃ ks b c × (1 ≤ m) × Source w₃ c (cells ks) m c × Source w₃ (5 * c) (cells ks) m c
+      module _ {b w₃ : List ℕ} (p : b ≡ without s ks) (l₃ : Laid w₂ (2 * c) (greatestOver ks s (tabulate c (λ k. above (at (part w₂ 0 c) k) (at (part w₂ (7 * c) c) k)))) c w₃) where
+        pub second-limits : LimitsRoom w₃ ks b c × (1 ≤ m) × Source w₃ (2 * c) (cells ks) m c × Source w₃ c (cells ks) m c
         second-limits =
             let o = r .own .own in
             let same : (i : ℕ) → i + c ≤ 6 * c → Below w i (cells ks) m → Below w₂ i (cells ks) m =
@@ -259,25 +259,23 @@ module _ {w ks a : List ℕ} {m s c : ℕ} (r : SecondRoom w ks a m s c) where
               limits-room s (r .own) (r .space) (l₃ .len ∙ l₂ .len ∙ l₁ .len) p,
               r .some,
               record { clear = clear-front (omega arith); grades = count-below (r .own .own) (above-below ks s (7 * c) (r .own .own) l₃ (count-below (sym (r .own .own)) (same 0 (omega arith) (r .lows)))) },
-              record { clear = clear-back (omega arith) (omega arith); grades = grades-behind (laid-within l₃) (omega arith) (same (5 * c) (omega arith) (r .seconds)) },
+              record { clear = clear-front (omega arith); grades = grades-below (laid-within l₃) (omega arith) (same c (omega arith) (r .seconds)) },
             )
 
-        pub second-laid : (gate : Gate) → u ≡ turned gate c m (part w₁ (6 * c) c) → {w₄ : List ℕ} → LimitsLaid ks b (exchangeFor gate ks m (stageAt ks w₃ c (5 * c) .limits)) c w₃ w₄ → SecondLaid gate m ks a s c w b w₄
+        pub second-laid : (gate : Gate) → u ≡ turned gate c m (part w₁ (6 * c) c) → {w₄ : List ℕ} → LimitsLaid ks b (exchangeFor gate ks m (stageAt ks w₃ (2 * c) c .limits)) c w₃ w₄ → SecondLaid gate m ks a s c w b w₄
         second-laid gate h x =
             let o = r .own .own in
             let v = r .own .room in
             let q₁ = l₁ .len in
             let q₂ = l₂ .len in
-            let stays : (i : ℕ) → 2 * c ≤ i → i + c ≤ 8 * c → part w₃ i (cells ks) ≡ part w₂ i (cells ks) =
-            λ i x y. laid-apart (behind i (cells ks) c c (omega arith) (omega arith)) l₃ in
             record {
               places = p;
               stage = λ t i f.
-                  outside-laid gate m ks s c (5 * c) i x p
+                  outside-laid gate m ks s (2 * c) c i x p
                   (above-part ks s 0 (7 * c) (r .own .own) (omega arith) l₃ (stays-in-both 0 (omega arith) ∙ f .lows) (first-exchanged gate h))
-                  (stays (5 * c) (omega arith) (omega arith) ∙ stays-in-both (5 * c) (omega arith) ∙ there w 5 (r .own .own) ∙ f .seconds);
+                  (laid-apart (before c (cells ks) (2 * c) c (omega arith) (omega arith)) l₃ ∙ stays-in-both c (omega arith) ∙ there w (λ i. i) (r .own .own) ∙ f .seconds);
               first =
-                  x .kept (6 * c) (cells ks) (clear-back (omega arith) (omega arith)) ∙ stays (6 * c) (omega arith) (omega arith)
+                  x .kept (6 * c) (cells ks) (clear-back (omega arith) (omega arith)) ∙ laid-apart (behind (6 * c) (cells ks) (2 * c) c (omega arith) (omega arith)) l₃
                   ∙ laid-apart (before (6 * c) (cells ks) (7 * c) c (omega arith) (omega arith)) l₂ ∙ first-block;
               len = x .len ∙ l₃ .len ∙ q₂ ∙ q₁;
             }

@@ -18,10 +18,10 @@ use Rattle.stage_drops.specs.Working.{Room, ForSecond, ForBoth}
 abbrev pub stageOf : List ℕ → Limits → Stage
 stageOf ks l = record { ks = ks; limits = l }
 
--- a part that stays when limits are laid: these may need parts 2 and 3
+-- a part that stays when limits are laid: these may need parts 3 and 4
 pub record Clear (a n c : ℕ) : Type 0 where
   pub inside : a + n ≤ 8 * c
-  pub aside : (a + n ≤ 2 * c) ⊎ (4 * c ≤ a)
+  pub aside : (a + n ≤ 3 * c) ⊎ (5 * c ≤ a)
 
 -- grades in such a part
 pub record Source (w : List ℕ) (a n m c : ℕ) : Type 0 where
@@ -46,7 +46,7 @@ pub record FirstRoom (w ks : List ℕ) (m t c : ℕ) : Type 0 where
   pub space : 8 * c + 2 * cells (without t ks) ≤ length w
   pub some : 1 ≤ m
   pub lows : Below w 0 (cells ks) m
-  pub firsts : Below w (4 * c) (cells ks) m
+  pub firsts : Below w (2 * c) (cells ks) m
 
 -- whatever limits the stage has: the first block's stage stands at 8 × c, and what the second is made from stays
 pub record FirstLaid (gate : Gate) (m : ℕ) (ks : List ℕ) (t c : ℕ) (w r w′ : List ℕ) : Type 0 where
@@ -63,7 +63,7 @@ pub record SecondRoom (w ks a : List ℕ) (m s c : ℕ) : Type 0 where
   pub space : 8 * c + 2 * cells (without s ks) ≤ length w
   pub some : 1 ≤ m
   pub lows : Below w 0 (cells ks) m
-  pub seconds : Below w (5 * c) (cells ks) m
+  pub seconds : Below w c (cells ks) m
   pub grades : Below w (8 * c) (cells a) m
 
 -- the second block's stage stands at 8 × c, and the first block's function in part 6

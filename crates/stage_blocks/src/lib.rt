@@ -20,7 +20,7 @@ fn lay(w: &mut [u8], ks: [u8; PLACES], b: [u8; PLACES], low: usize, high: usize,
     moves::moved(w, ks, b, n, high, 8 * c + n);
 }
 
-// The same, the limits being exchanged for min: parts 2 and 3 are then lost.
+// The same, the limits being exchanged for min: parts 3 and 4 are then lost.
 fn lay_limits(
     w: &mut [u8],
     gate: Gate,
@@ -37,14 +37,14 @@ fn lay_limits(
     match gate {
         Gate::Max => lay(w, ks, b, low, high, c),
         Gate::Min => {
-            fill::complement(w, m - 1, high, 2 * c, c);
-            fill::complement(w, m - 1, low, 3 * c, c);
-            lay(w, ks, b, 2 * c, 3 * c, c);
+            fill::complement(w, m - 1, high, 3 * c, c);
+            fill::complement(w, m - 1, low, 4 * c, c);
+            lay(w, ks, b, 3 * c, 4 * c, c);
         }
     }
 }
 
-// The first block's table, from what `choose` prepared. Parts 0 and 5 stay.
+// The first block's table, from what `choose` prepared. Parts 0 and 1 stay.
 pub fn first_table(
     w: &mut [u8],
     gate: Gate,
@@ -57,8 +57,8 @@ pub fn first_table(
     ensures { λ r. ⌜ FirstLaid gate m ks t c (now (w .entry)) r (now (w .exit)) ⌝ }
 {
     let b = sets::without(ks, t);
-    join_tables::greatest_above(w, ks, t, 0, 5 * c, 6 * c, c);
-    lay_limits(w, gate, m, ks, b, 6 * c, 4 * c, c);
+    join_tables::greatest_above(w, ks, t, 0, c, 6 * c, c);
+    lay_limits(w, gate, m, ks, b, 6 * c, 2 * c, c);
     b
 }
 
@@ -78,8 +78,8 @@ pub fn second_table(
     let b = sets::without(ks, s);
     moves::moved(w, a, ks, c, 8 * c, 6 * c);
     join_tables::exchange_block(w, gate, m, 6 * c, 7 * c, c);
-    join_tables::greatest_above(w, ks, s, 0, 7 * c, c, c);
-    lay_limits(w, gate, m, ks, b, c, 5 * c, c);
+    join_tables::greatest_above(w, ks, s, 0, 7 * c, 2 * c, c);
+    lay_limits(w, gate, m, ks, b, 2 * c, c, c);
     b
 }
 

@@ -35,40 +35,40 @@ module _ {w : List ℕ} {n : ℕ} (p : Spaced w n) where
   copied from to f g l = let r = p .room in laid-part l (omega arith) (part-length w from n (omega arith))
 
 module _ {w : List ℕ} {m n : ℕ} (p : Exchangeable w m n) where
-  pub exchange-first : (1 ≤ m) × Two w n (2 * n) n × Below w n n m
-  exchange-first = (p .some, ahead (p .spaced) n (2 * n) (omega arith) (omega arith), p .highs)
+  pub exchange-first : (1 ≤ m) × Two w n (3 * n) n × Below w n n m
+  exchange-first = (p .some, ahead (p .spaced) n (3 * n) (omega arith) (omega arith), p .highs)
 
-  pub exchange-second : {t w₁ : List ℕ} → Laid w (2 * n) t n w₁ → (1 ≤ m) × Two w₁ 0 (3 * n) n × Below w₁ 0 n m
+  pub exchange-second : {t w₁ : List ℕ} → Laid w (3 * n) t n w₁ → (1 ≤ m) × Two w₁ 0 (4 * n) n × Below w₁ 0 n m
   exchange-second l =
-      (p .some, ahead (spaced-same (l .len) (p .spaced)) 0 (3 * n) (omega arith) (omega arith), record { grade = λ k h. rw (l .before (0 + k) (omega arith)) (p .lows .grade k h) })
+      (p .some, ahead (spaced-same (l .len) (p .spaced)) 0 (4 * n) (omega arith) (omega arith), record { grade = λ k h. rw (l .before (0 + k) (omega arith)) (p .lows .grade k h) })
 
-  pub exchanged : {w₁ w₂ : List ℕ} → Laid w (2 * n) (turned Min n m (part w n n)) n w₁ → Laid w₁ (3 * n) (turned Min n m (part w₁ 0 n)) n w₂ → Exchanged m n w w₂
+  pub exchanged : {w₁ w₂ : List ℕ} → Laid w (3 * n) (turned Min n m (part w n n)) n w₁ → Laid w₁ (4 * n) (turned Min n m (part w₁ 0 n)) n w₂ → Exchanged m n w w₂
   exchanged {w₁} {w₂} l k =
       let s = p .spaced in
       let s₁ = spaced-same (l .len) s in
       let r = s .room in
       let r₁ = s₁ .room in
       record {
-        lows = laid-apart (ahead s₁ (2 * n) (3 * n) (omega arith) (omega arith)) k ∙ laid-part l (omega arith) (length-tabulateFrom _ 0 n);
-        highs = laid-part k (omega arith) (length-tabulateFrom _ 0 n) ∙ ap (turned Min n m) (laid-apart (ahead s 0 (2 * n) (omega arith) (omega arith)) l);
-        kept = kept-then (kept-turn (kept-laid (3 * n) l)) (kept-laid (2 * n) k);
+        lows = laid-apart (ahead s₁ (3 * n) (4 * n) (omega arith) (omega arith)) k ∙ laid-part l (omega arith) (length-tabulateFrom _ 0 n);
+        highs = laid-part k (omega arith) (length-tabulateFrom _ 0 n) ∙ ap (turned Min n m) (laid-apart (ahead s 0 (3 * n) (omega arith) (omega arith)) l);
+        kept = kept-then (kept-turn (kept-laid (4 * n) l)) (kept-laid (3 * n) k);
       }
 
 -- three copies
-pub settled : {w w₁ w₂ w₃ : List ℕ} {n : ℕ} → Spaced w n → Laid w 0 (part w (2 * n) n) n w₁ → Laid w₁ (4 * n) (part w₁ (6 * n) n) n w₂ → Laid w₂ (5 * n) (part w₂ (7 * n) n) n w₃
+pub settled : {w w₁ w₂ w₃ : List ℕ} {n : ℕ} → Spaced w n → Laid w 0 (part w (3 * n) n) n w₁ → Laid w₁ n (part w₁ (4 * n) n) n w₂ → Laid w₂ (2 * n) (part w₂ (5 * n) n) n w₃
     → MinSettled n w w₃
 settled {w} {w₁} {w₂} {w₃} {n} s x y z =
     let s₁ = spaced-same (x .len) s in
     let s₂ = spaced-same (y .len) s₁ in
     record {
       lows =
-          laid-apart (ahead s₂ 0 (5 * n) (omega arith) (omega arith)) z ∙ laid-apart (ahead s₁ 0 (4 * n) (omega arith) (omega arith)) y
-          ∙ copied s (2 * n) 0 (omega arith) (omega arith) x;
+          laid-apart (ahead s₂ 0 (2 * n) (omega arith) (omega arith)) z ∙ laid-apart (ahead s₁ 0 n (omega arith) (omega arith)) y
+          ∙ copied s (3 * n) 0 (omega arith) (omega arith) x;
       firsts =
-          laid-apart (ahead s₂ (4 * n) (5 * n) (omega arith) (omega arith)) z ∙ copied s₁ (6 * n) (4 * n) (omega arith) (omega arith) y
-          ∙ laid-apart (behind s (6 * n) 0 (omega arith) (omega arith)) x;
+          copied s₂ (5 * n) (2 * n) (omega arith) (omega arith) z ∙ laid-apart (behind s₁ (5 * n) n (omega arith) (omega arith)) y
+          ∙ laid-apart (behind s (5 * n) 0 (omega arith) (omega arith)) x;
       seconds =
-          copied s₂ (7 * n) (5 * n) (omega arith) (omega arith) z ∙ laid-apart (behind s₁ (7 * n) (4 * n) (omega arith) (omega arith)) y
-          ∙ laid-apart (behind s (7 * n) 0 (omega arith) (omega arith)) x;
+          laid-apart (ahead s₂ n (2 * n) (omega arith) (omega arith)) z ∙ copied s₁ (4 * n) n (omega arith) (omega arith) y
+          ∙ laid-apart (behind s (4 * n) 0 (omega arith) (omega arith)) x;
       len = z .len ∙ y .len ∙ x .len;
     }

@@ -32,11 +32,11 @@ pub record Exchangeable (w : List ℕ) (m n : ℕ) : Type 0 where
   pub lows : Below w 0 n m
   pub highs : Below w n n m
 
--- the limits as a min join wants them, in parts 2 and 3
+-- the limits as a min join wants them, in parts 3 and 4
 pub record Exchanged (m n : ℕ) (w w′ : List ℕ) : Type 0 where
-  pub lows : part w′ (2 * n) n ≡ turned Min n m (part w n n)
-  pub highs : part w′ (3 * n) n ≡ turned Min n m (part w 0 n)
-  pub kept : Kept w (2 * n) (3 * n) n w′
+  pub lows : part w′ (3 * n) n ≡ turned Min n m (part w n n)
+  pub highs : part w′ (4 * n) n ≡ turned Min n m (part w 0 n)
+  pub kept : Kept w (3 * n) (4 * n) n w′
 
 -- the grouping that a choice takes its sets from
 abbrev pub Taken : Found → Found → Choice → Type 0
@@ -51,9 +51,9 @@ pub record Decided (a b : Found) (r : Choice) : Type 0 where
 
 -- the min join's tables in the places of the max join's
 pub record MinSettled (n : ℕ) (w w′ : List ℕ) : Type 0 where
-  pub lows : part w′ 0 n ≡ part w (2 * n) n
-  pub firsts : part w′ (4 * n) n ≡ part w (6 * n) n
-  pub seconds : part w′ (5 * n) n ≡ part w (7 * n) n
+  pub lows : part w′ 0 n ≡ part w (3 * n) n
+  pub firsts : part w′ (2 * n) n ≡ part w (5 * n) n
+  pub seconds : part w′ n n ≡ part w (4 * n) n
   pub len : length w′ ≡ length w
 
 abbrev pub Settled : ℕ → List ℕ → Choice → List ℕ → Type 0

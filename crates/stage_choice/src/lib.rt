@@ -13,13 +13,13 @@ pub enum Choice {
     Join(Gate, Sets),
 }
 
-// The limits as a min join wants them, in parts 2 and 3.
+// The limits as a min join wants them, in parts 3 and 4.
 fn exchange_limits(w: &mut [u8], m: u8, n: usize)
     requires { ⌜ Exchangeable (now w) m n ⌝ }
     ensures { λ _. ⌜ Exchanged m n (now (w .entry)) (now (w .exit)) ⌝ }
 {
-    join_tables::exchange_block(w, Gate::Min, m, n, 2 * n, n);
-    join_tables::exchange_block(w, Gate::Min, m, 0, 3 * n, n);
+    join_tables::exchange_block(w, Gate::Min, m, n, 3 * n, n);
+    join_tables::exchange_block(w, Gate::Min, m, 0, 4 * n, n);
 }
 
 // The choice between the grouping for max and the one for min.
@@ -49,9 +49,9 @@ fn settle_min(w: &mut [u8], n: usize)
     requires { ⌜ Spaced (now w) n ⌝ }
     ensures { λ _. ⌜ MinSettled n (now (w .entry)) (now (w .exit)) ⌝ }
 {
-    fill::copy(w, 2 * n, 0, n);
-    fill::copy(w, 6 * n, 4 * n, n);
-    fill::copy(w, 7 * n, 5 * n, n);
+    fill::copy(w, 3 * n, 0, n);
+    fill::copy(w, 4 * n, n, n);
+    fill::copy(w, 5 * n, 2 * n, n);
 }
 
 // The tables of the join that is chosen in the places of the max join's.
@@ -69,14 +69,15 @@ fn settle(w: &mut [u8], choice: Choice, n: usize)
 }
 
 // The choice of the stage at the front of the buffer, which has n cells. A split finds the limits there as they
-// were; a join finds its lower limits in part 0, uA in part 4 and uB in part 5, as the max join wants them.
+// were; a join finds its lower limits in part 0, uB in part 1 and uA in part 2, as the max join wants them. The
+// limits are exchanged first, since the tables of a max grouping take the upper ones' place.
 pub fn choose(w: &mut [u8], ks: [u8; PLACES], m: u8, n: usize) -> Choice
     requires { ⌜ Room (now w) ks n × Proper m (frontStage ks (now w)) ⌝ }
     ensures { λ r. ⌜ Chosen m (frontStage ks (now (w .entry))) (now (w .entry)) r (now (w .exit)) ⌝ }
 {
-    let by_max = grouping::group(w, ks, n, 0, n, 4 * n, 5 * n);
     exchange_limits(w, m, n);
-    let by_min = grouping::group(w, ks, n, 2 * n, 3 * n, 6 * n, 7 * n);
+    let by_max = grouping::group(w, ks, n, 0, n);
+    let by_min = grouping::group(w, ks, n, 3 * n, 4 * n);
     let choice = decide(by_max, by_min);
     settle(w, choice, n);
     choice

@@ -34,7 +34,7 @@ pub record Proper (m : ℕ) (x : Stage) : Type 0 where
   pub top : (c : ℕ) → c < cells (x .ks) → at (x .limits .upper) c ≤ m - 1
 
 -- What the blocks of a join at s and t are made from, x being the stage with its conditions left: the lower limits as the max join
--- wants them in part 0, uB in part 5 and, for the first block, uA in part 4
+-- wants them in part 0, uB in part 1 and, for the first block, uA in part 2
 module _ (gate : Gate) (m : ℕ) (x : Stage) (s t : ℕ) (w : List ℕ) where
   abbrev n : ℕ
   n = cells (x .ks)
@@ -44,8 +44,8 @@ module _ (gate : Gate) (m : ℕ) (x : Stage) (s t : ℕ) (w : List ℕ) where
 
   pub record ForSecond : Type 0 where
     pub lows : part w 0 n ≡ limits .lower
-    pub seconds : part w (5 * n) n ≡ uB (x .ks) s t (limits .lower) (limits .upper)
+    pub seconds : part w n n ≡ uB (x .ks) s t (limits .lower) (limits .upper)
 
   pub record ForBoth : Type 0 where
     pub second : ForSecond
-    pub firsts : part w (4 * n) n ≡ uA (x .ks) s t (limits .lower) (limits .upper)
+    pub firsts : part w (2 * n) n ≡ uA (x .ks) s t (limits .lower) (limits .upper)

@@ -82,7 +82,7 @@ module _ {gate : Gate} {m : ℕ} {ks : List ℕ} {l : Limits} {s t c : ℕ} {w :
         some = ready .grades;
         lows = lows-below (j .tables .second);
         firsts =
-            part-below _ (there w 4 (j .left .own .own) ∙ j .tables .firsts) (λ k h. le-trans (uA-under ks s t (exchangeFor gate ks m l .lower) (exchangeFor gate ks m l .upper) k h) (good .top k h));
+            part-below _ (there w (λ i. 2 * i) (j .left .own .own) ∙ j .tables .firsts) (λ k h. le-trans (uA-under ks s t (exchangeFor gate ks m l .lower) (exchangeFor gate ks m l .upper) k h) (good .top k h));
       }
 
   -- the first block's stage
@@ -118,7 +118,7 @@ module _ {gate : Gate} {m : ℕ} {ks : List ℕ} {l : Limits} {s t c : ℕ} {w :
       second-tables =
           let o = j .left .own .own in
           let u = f .second s l (j .tables .second) in
-          record { lows = kept-part 0 (omega arith) ∙ u .lows; seconds = sym (there w₂ 5 o) ∙ kept-part (5 * c) (omega arith) ∙ there w₁ 5 o ∙ u .seconds }
+          record { lows = kept-part 0 (omega arith) ∙ u .lows; seconds = sym (there w₂ (λ i. i) o) ∙ kept-part c (omega arith) ∙ there w₁ (λ i. i) o ∙ u .seconds }
 
       block-here : part w₂ (8 * c) (cells a) ≡ computed (A .ks) (treeOf m A)
       block-here = child-function first-lent k (first-done .function)
@@ -146,7 +146,7 @@ module _ {gate : Gate} {m : ℕ} {ks : List ℕ} {l : Limits} {s t c : ℕ} {w :
             some = ready .grades;
             lows = lows-below second-tables;
             seconds =
-                part-below _ (there w₂ 5 o ∙ second-tables .seconds)
+                part-below _ (there w₂ (λ i. i) o ∙ second-tables .seconds)
                 (λ i h. le-trans (uB-under ks s t (exchangeFor gate ks m l .lower) (exchangeFor gate ks m l .upper) i h) (good .top i h));
             grades = part-below _ block-here grade-below;
           }

@@ -1,5 +1,5 @@
 -- `grouping::group` meets its contract.
-use Prim.Native.Nat.{_<_}
+use Prim.Native.Nat.{_+_, _<_}
 use native.Mathlib.Omega.{arith}
 use Rattle.grouping.proofs.GroupedLaws.{rising, grouped-none, grouped-some}
 use Rattle.grouping.proofs.KeptLaws.{same-space}
@@ -20,7 +20,7 @@ same-length : tie.Need-same-length
 same-length c = search needs
 
 returns : tie.Need-returns
-returns c = let s = c .before .before .before .before .before .args in grouped-none (c .before .before .first-pair .ensures) (s .a) (s .b) (c .enum-told .given .1)
+returns c = let s = c .before .before .before .before .before .args in grouped-none (c .before .before .first-pair .ensures) (s .high + s .n) (s .high) (c .enum-told .given .1)
 
 -- the pair's conditions
 range : (c : tie.After-i) → let p = c .i .given .0 in (p .0 < p .1 .0) × (p .1 .0 < 8)
@@ -30,13 +30,18 @@ start-sets-requires : tie.Need-start-sets-requires
 start-sets-requires c κs =
     let r = range (c .before .before) in
     let p = c .before .before .before .before .before .before .before .pre in
-    (omega arith, r .1, p .0, p .2)
+    let e = p .0 in
+    let l = p .1 .both .src in
+    (omega arith, r .1, e, p .1 .shaped, omega arith)
 
 singleton-requires : tie.Need-singleton-requires
 singleton-requires c κs = let r = range (c .before .before .before .before .before) in omega arith
 
 singleton-requires-2 : tie.Need-singleton-requires-2
 singleton-requires-2 c κs = range (c .before .before .before .before .before .before) .1
+
+add-grow : tie.Need-add-grow
+add-grow c = search needs
 
 grow-requires : tie.Need-grow-requires
 grow-requires c κs =
@@ -66,6 +71,7 @@ group-spec =
     start-sets-requires
     singleton-requires
     singleton-requires-2
+    add-grow
     grow-requires
     same-length-2
     returns-2)

@@ -10,9 +10,6 @@ without-requires c κs = search needs
 mul-greatest-above : tie.Need-mul-greatest-above
 mul-greatest-above c = search needs
 
-mul-greatest-above-2 : tie.Need-mul-greatest-above-2
-mul-greatest-above-2 c = search needs
-
 greatest-above-requires : tie.Need-greatest-above-requires
 greatest-above-requires c κs = first-above (c .before .before .before .pre)
 
@@ -42,7 +39,6 @@ first-table-spec =
     (tie.spec
     without-requires
     mul-greatest-above
-    mul-greatest-above-2
     greatest-above-requires
     mul-lay-limits
     mul-lay-limits-2

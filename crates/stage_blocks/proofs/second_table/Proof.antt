@@ -29,6 +29,9 @@ exchange-block-requires c κs = second-exchange (c .before .before .before .befo
 mul-greatest-above : tie.Need-mul-greatest-above
 mul-greatest-above c = search needs
 
+mul-greatest-above-2 : tie.Need-mul-greatest-above-2
+mul-greatest-above-2 c = search needs
+
 greatest-above-requires : tie.Need-greatest-above-requires
 greatest-above-requires c κs = second-above (c .before .before .before .before .before .before .before .before .before .before .before .pre) (c .before .before .before .before .before .before .before .moved .ensures) (c .before .before .before .exchange-block .ensures)
 
@@ -61,6 +64,7 @@ second-table-spec =
     mul-exchange-block-2
     exchange-block-requires
     mul-greatest-above
+    mul-greatest-above-2
     greatest-above-requires
     mul-lay-limits
     lay-limits-requires

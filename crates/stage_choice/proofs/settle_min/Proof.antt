@@ -1,5 +1,4 @@
 -- `stage_choice::settle_min` meets its contract.
-use Prim.Native.Nat.{_*_}
 use native.Mathlib.Omega.{arith}
 use Rattle.stage_choice.proofs.SpaceLaws.{spaced-same, behind, settled}
 use borrow.Author.Needs.{needs}
@@ -10,25 +9,22 @@ mul-copy : tie.Need-mul-copy
 mul-copy c = search needs
 
 copy-requires : tie.Need-copy-requires
-copy-requires c κs = let b = c .before .before in behind (b .pre) (2 * b .args .n) 0 (omega arith) (omega arith)
+copy-requires c κs = behind (c .before .before .pre) _ _ (omega arith) (omega arith)
 
 mul-copy-2 : tie.Need-mul-copy-2
 mul-copy-2 c = search needs
 
+copy-requires-2 : tie.Need-copy-requires-2
+copy-requires-2 c κs = behind (spaced-same (search needs) (c .before .before .before .before .before .before .pre)) _ _ (omega arith) (omega arith)
+
 mul-copy-3 : tie.Need-mul-copy-3
 mul-copy-3 c = search needs
-
-copy-requires-2 : tie.Need-copy-requires-2
-copy-requires-2 c κs = let b = c .before .before .before .before .before .before in behind (spaced-same (search needs) (b .pre)) (6 * b .args .n) (4 * b .args .n) (omega arith) (omega arith)
 
 mul-copy-4 : tie.Need-mul-copy-4
 mul-copy-4 c = search needs
 
-mul-copy-5 : tie.Need-mul-copy-5
-mul-copy-5 c = search needs
-
 copy-requires-3 : tie.Need-copy-requires-3
-copy-requires-3 c κs = let b = c .before .before .before .before .before .before .before .before .before .before in behind (spaced-same (search needs) (b .pre)) (7 * b .args .n) (5 * b .args .n) (omega arith) (omega arith)
+copy-requires-3 c κs = behind (spaced-same (search needs) (c .before .before .before .before .before .before .before .before .before .before .pre)) _ _ (omega arith) (omega arith)
 
 same-length : tie.Need-same-length
 same-length c = search needs
@@ -43,10 +39,9 @@ settle-min-spec =
     mul-copy
     copy-requires
     mul-copy-2
-    mul-copy-3
     copy-requires-2
+    mul-copy-3
     mul-copy-4
-    mul-copy-5
     copy-requires-3
     same-length
     returns)
