@@ -1,8 +1,8 @@
 // Step 1 of a stage: conditions that can be dropped. The stage's limits are at the front of its buffer, the
 // lower ones and right behind them the upper ones, a byte for each cell. A drop leaves them so.
+use extremes::packing;
 use places::sets;
 use rules::PLACES;
-use tables::extremes;
 ghost use mathlib.Core.Path.{_≡_};
 ghost use mathlib.Core.Bool.{cond};
 ghost use Rattle.rules.specs.Cell.{cells, singleton, without};
@@ -23,8 +23,8 @@ fn drop_condition(w: &mut [u8], ks: [u8; PLACES], i: usize, n: usize, step: usiz
 {
     let card = ks[i] as usize;
     let count = n / (step * card);
-    extremes::pack_blocks(w, true, 0, 0, count, step, card);
-    extremes::pack_blocks(w, false, n, step * count, count, step, card);
+    packing::pack_blocks(w, true, 0, 0, count, step, card);
+    packing::pack_blocks(w, false, n, step * count, count, step, card);
 }
 
 // Whether condition i can be dropped: no lower grade is above the least upper grade over it.

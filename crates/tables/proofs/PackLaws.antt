@@ -20,7 +20,7 @@ use Rattle.tables.specs.Part.{part, Laid}
 use Rattle.tables.specs.Line.{best, lineBest, Blocks, lineExtremes}
 use Rattle.tables.proofs.PartLaws.{Filled}
 use Rattle.tables.proofs.LineLaws.{line-same, line-table, best-bound}
-use Rattle.tables.proofs.OverLaws.{Counted}
+use Rattle.tables.proofs.OverLaws.{Counted, blocks-some}
 
 -- lines that start where nothing is written, or behind, are as they were
 pub unpacked : (greatest : Bool) {w w′ : List ℕ} {to n : ℕ} {f : ℕ → ℕ} (a step card : ℕ) → 0 < card → Filled w to f n w′ → to + n ≤ a → lineBest greatest w′ a step card ≡ lineBest greatest w a step card
@@ -99,6 +99,19 @@ packed-low {ks} {i} {stp} {crd} {count} n =
       mul-assoc crd stp count,
       ap (λ (x : ℕ). x * count) (mul-comm stp crd),
     )
+
+-- right behind a packed table as large, the table either starts or lies further on
+pub packed-aside : {ks : List ℕ} {i stp crd count n : ℕ} → Counted ks i stp crd count → n ≡ cells ks → (n ≡ stp * count) ⊎ (stp * count + stp ≤ n)
+packed-aside {ks} {i} {stp} {crd} {count} {n} c e =
+    by-order 2 crd
+    (λ two. inr (omega (arith, size, mul-le-mul-right (stp * count) two, one)))
+    (λ one. let k : crd ≡ 1 = let s = c .some in omega arith in inl (e ∙ sym (c .all) ∙ ap (λ (x : ℕ). stp * x * count) k ∙ ap (λ (x : ℕ). x * count) (mul-one stp)))
+  where
+    size : crd * (stp * count) ≡ n
+    size = sym (mul-assoc crd stp count) ∙ ap (λ (x : ℕ). x * count) (mul-comm crd stp) ∙ c .all ∙ sym e
+
+    one : stp ≤ stp * count
+    one = omega (arith, mul-le-mul-left stp (blocks-some c), mul-one stp)
 
 -- they are the table over the places without the condition, of its extremes over it
 module _ {ks : List ℕ} {i stp crd count : ℕ} (p : Positive ks) (h : i < length ks) (n : Counted ks i stp crd count) where

@@ -1,17 +1,18 @@
 -- `stage_drops::drop_condition` meets its contract.
 use Prim.Native.Nat.{_*_, _/_}
 use mathlib.Core.Path.{refl}
+use mathlib.Core.Logic.{inl}
 use native.Mathlib.Omega.{arith}
 use lib.ListN.{getD}
 use borrow.Author.Needs.{needs}
 use Rattle.tables.proofs.OverLaws.{Counted, counted, counted-blocks}
-use Rattle.tables.proofs.PackLaws.{packed-low}
+use Rattle.tables.proofs.PackLaws.{packed-low, packed-aside}
 use Rattle.stage_drops.proofs.DropLaws.{both-packed}
 use Rattle.stage_drops.proofs.drop_condition.Statement.{statement}
 use Rattle.stage_drops.proofs.drop_condition.Tie as tie
 use Rattle.stage_drops.proofs.drop_condition.Reads as reads
 use Rattle.stage_drops.proofs.drop_condition.Lts as lts
-use Rattle.tables.proofs.extremes.pack_blocks.Reads as pack-blocks-reads
+use Rattle.extremes.proofs.packing.pack_blocks.Reads as pack-blocks-reads
 
 array-read-card : tie.Need-array-read-card
 array-read-card c = search needs
@@ -33,7 +34,7 @@ pack-blocks-requires : tie.Need-pack-blocks-requires
 pack-blocks-requires c κs =
     let b = c .before .before in
     let p = b .pre .1 in
-    (counted-blocks _ _ (p .shaped .some) (counts b) (let e = p .own in let r = p .room in omega arith), search needs)
+    (counted-blocks _ _ (counts b) (let e = p .own in let r = p .room in omega arith), search needs, inl refl)
 
 mul-pack-blocks : tie.Need-mul-pack-blocks
 mul-pack-blocks c = let b = c .before .before .before .before .before .before in let few = b .pre .1 .shaped .few in omega (arith, packed-low (counts b))
@@ -43,7 +44,7 @@ pack-blocks-requires-2 c κs =
     let b = c .before .before .before .before .before .before in
     let p = b .pre .1 in
     let e = p .own in
-    (counted-blocks _ _ (p .shaped .some) (counts b) (let l = c .before .before .before .pack-blocks .ensures .len in let r = p .room in omega arith), omega (arith, packed-low (counts b)))
+    (counted-blocks _ _ (counts b) (let l = c .before .before .before .pack-blocks .ensures .len in let r = p .room in omega arith), omega (arith, packed-low (counts b)), packed-aside (counts b) e)
 
 same-length : tie.Need-same-length
 same-length c = search needs
