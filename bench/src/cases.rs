@@ -136,6 +136,24 @@ fn join(name: &str, table: OwnedTable, gate: Gate, sets: Sets, second: bool) -> 
     Case { name: format!("join {name}"), growth: None, prepare: Box::new(prepare) }
 }
 
+/// Sets of conditions of the largest shape, each pair with its name and the gate that it joins by.
+const SETS: [(&str, Gate, Sets); 6] = [
+    ("sets of 1 and 1", Gate::Max, Sets { s: 0b0000_0001, t: 0b1000_0000 }),
+    ("sets of 3 and 3, adjoining", Gate::Max, Sets { s: 0b0000_0111, t: 0b1110_0000 }),
+    ("sets of 3 and 3, alternating", Gate::Max, Sets { s: 0b0010_1010, t: 0b0101_0100 }),
+    ("sets of 7 and 1", Gate::Max, Sets { s: 0b0111_1111, t: 0b1000_0000 }),
+    ("sets of 1 and 7", Gate::Max, Sets { s: 0b0000_0001, t: 0b1111_1110 }),
+    ("sets of 3 and 3, adjoining, min", Gate::Min, Sets { s: 0b0000_0111, t: 0b1110_0000 }),
+];
+
+/// Both blocks of a join of the largest shape by these sets.
+fn join_by((name, gate, sets): (&str, Gate, Sets)) -> [Case; 2] {
+    let mut next = noise();
+    let table = OwnedTable::joined(&LARGEST, 16, gate, sets, |_| next());
+    [("first", false), ("second", true)]
+        .map(|(block, second)| join(&format!("{block} block, 8 2⁷, {name}"), table.clone(), gate, sets, second))
+}
+
 /// Prepares a call that has a work buffer and writes to one of so many bytes.
 fn with_work(
     table: OwnedTable,
@@ -310,6 +328,7 @@ pub fn all() -> Vec<Case> {
         join("second block, 1,024 cells", joinable(), Gate::Min, halves, true),
         join("that does not exist, 1,024 cells", parity(&LARGEST), Gate::Max, halves, false),
     ];
+    cases.extend(SETS.into_iter().flat_map(join_by));
     let compiled = compiled();
     cases.extend(compiled.iter().map(|(name, line, table)| compile(name, *line, table.clone())));
     cases.extend(FORECAST.map(|name| {

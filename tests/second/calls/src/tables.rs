@@ -1,6 +1,7 @@
 //! Tables that own their bytes, made by rule, and their files.
 
-use crate::Table;
+use crate::{Gate, Sets, Table};
+use std::collections::BTreeMap;
 
 /// What can be lent as a table: any bytes.
 #[derive(Clone, Debug, PartialEq, Eq)]
@@ -30,6 +31,25 @@ impl OwnedTable {
         let cells: usize = cards.iter().map(|&card| card as usize).product();
         let (lower, upper) = (0..cells).map(|cell| rule(&values(cards, cell))).unzip();
         OwnedTable { shape, lower, upper }
+    }
+
+    /// The gate of two functions, the first blind to T and the second to S: it joins by these sets. `next` gives their
+    /// grades one by one, and is told the set that the function is not blind to.
+    pub fn joined(cards: &[u8], grades: u8, gate: Gate, sets: Sets, mut next: impl FnMut(u8) -> usize) -> OwnedTable {
+        let Sets { s, t } = sets;
+        let mut blocks = [(t, s), (s, t)].map(|(blind, other)| (blind, other, BTreeMap::new()));
+        OwnedTable::by_rule(cards, grades, |values| {
+            let [first, second] = blocks.each_mut().map(|(blind, other, block)| {
+                let seen = values.iter().enumerate().filter(|(condition, _)| *blind >> condition & 1 == 0);
+                let seen: Vec<u8> = seen.map(|(_, &value)| value).collect();
+                *block.entry(seen).or_insert_with(|| (next(*other) % grades as usize) as u8)
+            });
+            let grade = match gate {
+                Gate::Min => first.min(second),
+                Gate::Max => first.max(second),
+            };
+            (grade, grade)
+        })
     }
 
     pub fn lent(&self) -> Table<'_> {
