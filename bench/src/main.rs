@@ -2,6 +2,7 @@
 //!
 //!     bench FOLDER                    writes BENCHMARKS.md and compile-cost.svg there, and prints the table
 //!     bench once NAME CASE TIMES      makes one call so many times; for counting its instructions
+//!     bench against PROGRAM           prints each call's instructions with the library in another build, and in this one
 //!     bench search SECONDS            draws tables for so long, and prints those that take longest to compile
 //!
 //! Instructions are counted by callgrind, in two runs of which one makes twice as many calls: the difference is the
@@ -13,8 +14,8 @@ mod report;
 
 use calls::{Calls, plain::Plain};
 use cases::{Case, all, compile, drawn};
-use report::{Report, Row};
-use std::path::Path;
+use report::{Report, Row, grouped};
+use std::path::{Path, PathBuf};
 use std::process::{Command, ExitCode};
 use std::time::{Duration, Instant};
 
@@ -42,24 +43,28 @@ fn once(name: &str, case: &str, times: &str) -> Option<()> {
     Some(())
 }
 
-/// Instructions of a whole run of this program that makes the call so many times.
-fn counted(name: &str, case: usize, times: u32) -> Option<u64> {
-    let program = std::env::current_exe().ok()?;
+fn this_program() -> PathBuf {
+    std::env::current_exe().expect("a program that runs has a file")
+}
+
+/// Instructions of a whole run of a build of this program that makes the call so many times.
+fn counted(program: &Path, name: &str, case: usize, times: u32) -> Option<u64> {
     let output = Command::new("valgrind")
         .args(["--tool=callgrind", "--callgrind-out-file=/dev/null"])
         .arg(program)
         .args(["once", name, &case.to_string(), &times.to_string()])
         .output()
-        .ok()?;
+        .ok()
+        .filter(|output| output.status.success())?;
     let report = String::from_utf8(output.stderr).ok()?;
     let line = report.lines().find(|line| line.contains("Collected :"))?;
     line.rsplit(' ').next()?.parse().ok()
 }
 
 /// Instructions of one call.
-fn instructions(name: &str, case: usize) -> f64 {
+fn instructions(program: &Path, name: &str, case: usize) -> f64 {
     const TIMES: u32 = 4;
-    let counted = |times| counted(name, case, times).expect("callgrind counts the instructions of a run");
+    let counted = |times| counted(program, name, case, times).expect("callgrind counts the instructions of a run");
     (counted(2 * TIMES) - counted(TIMES)) as f64 / TIMES as f64
 }
 
@@ -95,13 +100,13 @@ fn times(case: &Case, implementations: &[Named]) -> Vec<Duration> {
 
 /// Measures every case, and prints each as it is done.
 fn measure() -> Report {
-    let implementations = implementations();
+    let (implementations, program) = (implementations(), this_program());
     let mut report = Report::new(implementations.iter().map(|(name, _)| *name).collect());
     print!("{}", report.heading());
     for (number, case) in all().into_iter().enumerate() {
         let answers: Vec<u32> = implementations.iter().map(|(_, calls)| (case.prepare)()(&**calls)).collect();
         assert!(answers.iter().all(|answer| *answer == answers[0]), "{}: answers {answers:?}", case.name);
-        let counts = report.names.iter().map(|name| instructions(name, number)).collect();
+        let counts = report.names.iter().map(|name| instructions(&program, name, number)).collect();
         let times = times(&case, &implementations).iter().map(|time| time.as_nanos() as f64 / 1e3).collect();
         let row = Row { name: case.name, growth: case.growth, counts, times };
         print!("{}", report.shown(&row));
@@ -109,6 +114,15 @@ fn measure() -> Report {
     }
     print!("\n{}{}{}", report.worst(), report.forecasts(), report.visits());
     report
+}
+
+/// Prints each case's instructions with the library in another build of this program, before, and in this one, after.
+fn against(other: &Path) {
+    println!("| call | before, instructions | after, instructions | ratio |\n|---|---:|---:|---:|");
+    for (number, case) in all().iter().enumerate() {
+        let [before, after] = [other, &this_program()].map(|program| instructions(program, "library", number));
+        println!("| {} | {} | {} | {:.2} |", case.name, grouped(before), grouped(after), after / before);
+    }
 }
 
 /// The least time of so many compiles of a drawn table.
@@ -165,9 +179,13 @@ fn main() -> ExitCode {
     let words: Vec<&str> = words.iter().map(String::as_str).collect();
     let done = match words[..] {
         ["once", name, case, times] => once(name, case, times).ok_or("no such call".into()),
+        ["against", other] => {
+            against(Path::new(other));
+            Ok(())
+        }
         ["search", seconds] => search(seconds).ok_or("bench search SECONDS".into()),
         [folder] => write(Path::new(folder), &measure()).map_err(|error| format!("{folder}: {error}")),
-        _ => Err("bench FOLDER\nbench once NAME CASE TIMES\nbench search SECONDS".into()),
+        _ => Err("bench FOLDER\nbench once NAME CASE TIMES\nbench against PROGRAM\nbench search SECONDS".into()),
     };
     match done {
         Ok(()) => ExitCode::SUCCESS,
