@@ -14,29 +14,32 @@
 //! looked at. The second block is found in the same way, beside the first block given. For min the functions are the
 //! least that are below no lower limit.
 
-use crate::search::Search;
+use crate::search::{Search, seen_without};
 use crate::{Answer, Gate, Limits, Shape, Table, Values, refusal, stop_if};
 use std::collections::BTreeMap;
 
 /// A block's limits, for each cell of its table.
 pub type Block = BTreeMap<Values, Limits>;
 
-/// At a cell, the greatest function of those that are blind to the set and above no upper limit, for max; for min, the
-/// least of those that are below no lower limit.
-fn furthest(shape: &Shape, table: &Table, gate: Gate, blind: u8, cell: Values) -> u8 {
-    let line = table.over(shape, cell, blind);
-    let grade = match gate {
-        Gate::Max => (0..shape.grades).rev().find(|&grade| line.iter().all(|limits| grade <= limits.upper)),
-        Gate::Min => (0..shape.grades).find(|&grade| line.iter().all(|limits| grade >= limits.lower)),
+/// The greatest function of those that are blind to the set and above no upper limit, for max; for min, the least of
+/// those that are below no lower limit. A line is looked at when one of its cells is first asked for, and only then.
+fn furthest(shape: &Shape, table: &Table, gate: Gate, blind: u8) -> impl FnMut(Values) -> u8 {
+    let on_line = move |cell: &Values| {
+        let line = table.over(shape, *cell, blind);
+        let grade = match gate {
+            Gate::Max => (0..shape.grades).rev().find(|&grade| line.iter().all(|limits| grade <= limits.upper)),
+            Gate::Min => (0..shape.grades).find(|&grade| line.iter().all(|limits| grade >= limits.lower)),
+        };
+        grade.expect("grade 0 is above no limit, the last grade below none")
     };
-    grade.expect("grade 0 is above no limit, the last grade below none")
+    let mut found = BTreeMap::new();
+    move |cell| *found.entry(seen_without(cell, blind)).or_insert_with_key(on_line)
 }
 
 /// Whether the join exists.
 pub fn exists(shape: &Shape, table: &Table, gate: Gate, s: u8, t: u8) -> bool {
-    let furthest = |blind, cell| furthest(shape, table, gate, blind, cell);
-    let joins = |(&cell, limits): (&Values, &Limits)| limits.allow(gate.of(furthest(t, cell), furthest(s, cell)));
-    let exists = table.limits.iter().all(joins);
+    let [mut first, mut second] = [t, s].map(|blind| furthest(shape, table, gate, blind));
+    let exists = table.limits.iter().all(|(&cell, limits)| limits.allow(gate.of(first(cell), second(cell))));
     if let Some(search) = Search::new(shape, table, gate, s, t) {
         assert_eq!(search.first_blocks().is_some(), exists, "furthest and all functions differ: {table:?} {s} {t}");
     }
@@ -44,15 +47,17 @@ pub fn exists(shape: &Shape, table: &Table, gate: Gate, s: u8, t: u8) -> bool {
 }
 
 /// The limits of a block that is blind to the set, in a join that exists, beside the other block's grades.
-fn block(shape: &Shape, table: &Table, gate: Gate, blind: u8, other: impl Fn(Values) -> u8) -> Block {
-    let other: BTreeMap<Values, u8> = table.limits.keys().map(|&cell| (cell, other(cell))).collect();
-    let open = table.open(shape, blind, |cell, limits, grade| limits.allow(gate.of(grade, other[&cell])));
+fn block(shape: &Shape, table: &Table, gate: Gate, blind: u8, mut other: impl FnMut(Values) -> u8) -> Block {
+    let open = table.open(shape, blind, |cell, limits| {
+        let other = other(cell);
+        move |grade| limits.allow(gate.of(grade, other))
+    });
     open.expect("a join that exists has both blocks")
 }
 
 /// The first block's limits.
 pub fn first_block(shape: &Shape, table: &Table, gate: Gate, s: u8, t: u8) -> Block {
-    let found = block(shape, table, gate, t, |cell| furthest(shape, table, gate, s, cell));
+    let found = block(shape, table, gate, t, furthest(shape, table, gate, s));
     if let Some(search) = Search::new(shape, table, gate, s, t) {
         let searched = search.first_blocks().into_iter().flatten();
         assert!(searched.eq(found.clone()), "first blocks by lines and by search differ: {table:?} {s} {t}");
@@ -106,13 +111,14 @@ impl Lent<'_> {
     pub fn second(&self, given: &[u8]) -> Answer<Vec<Limits>> {
         let (shape, table, first) = self.judged(Some(given.len()))?;
         let grade = |cell: Values| given[shape.number(cell)];
-        let is_blind = |cell| shape.over(cell, self.t).into_iter().all(|other| grade(other) == grade(cell));
-        let sound = first.iter().all(|(&cell, limits)| is_blind(cell) && limits.allow(grade(cell)));
+        let is_blind = first.keys().all(|&cell| grade(cell) == grade(seen_without(cell, self.t)));
+        let sound = is_blind && first.iter().all(|(&cell, limits)| limits.allow(grade(cell)));
         // The same without the limits: it is a function, blind to T, and some second block joins with it.
-        let joins = table.limits.iter().all(|(&cell, limits)| {
-            let second = furthest(&shape, &table, self.gate, self.s, cell);
-            is_blind(cell) && grade(cell) < shape.grades && limits.allow(self.gate.of(grade(cell), second))
-        });
+        let mut second = furthest(&shape, &table, self.gate, self.s);
+        let joins = is_blind
+            && table.limits.iter().all(|(&cell, limits)| {
+                grade(cell) < shape.grades && limits.allow(self.gate.of(grade(cell), second(cell)))
+            });
         assert_eq!(sound, joins, "limits and joins differ on a first block: {table:?} {given:?}");
         stop_if(!sound, refusal::FIRST_BLOCK)?;
         let second = second_block(&shape, &table, self.gate, self.s, self.t, grade);

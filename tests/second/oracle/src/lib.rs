@@ -173,12 +173,13 @@ impl Table {
     }
 
     /// For each cell the least and the greatest grade that is good in all cells equal to it outside the set, or none if
-    /// somewhere no grade is. Every grade between these two is good as well, or limits could not say which are.
-    pub(crate) fn open(
+    /// somewhere no grade is; `good_at` gives the test of grades at a cell. Every grade between these two is good as well,
+    /// or limits could not say which are.
+    pub(crate) fn open<G: Fn(u8) -> bool>(
         &self,
         shape: &Shape,
         set: u8,
-        good: impl Fn(Values, Limits, u8) -> bool,
+        mut good_at: impl FnMut(Values, Limits) -> G,
     ) -> Option<BTreeMap<Values, Limits>> {
         let mut open = BTreeMap::new();
         for &cell in self.limits.keys() {
@@ -186,8 +187,8 @@ impl Table {
                 continue;
             }
             let line = shape.over(cell, set);
-            let good = |&grade: &u8| line.iter().all(|&cell| good(cell, self.limits[&cell], grade));
-            let grades: Vec<u8> = (0..shape.grades).filter(good).collect();
+            let good: Vec<G> = line.iter().map(|&cell| good_at(cell, self.limits[&cell])).collect();
+            let grades: Vec<u8> = (0..shape.grades).filter(|&grade| good.iter().all(|good| good(grade))).collect();
             let limits = Limits { lower: *grades.first()?, upper: *grades.last()? };
             assert!(grades.into_iter().eq(limits.lower..=limits.upper), "a grade between good ones is not: {self:?}");
             open.extend(line.into_iter().map(|cell| (cell, limits)));

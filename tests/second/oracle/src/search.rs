@@ -23,7 +23,7 @@ pub struct Search<'a> {
 }
 
 /// The cell as a block sees it that may not depend on the set.
-fn seen_without(cell: Values, set: u8) -> Values {
+pub(crate) fn seen_without(cell: Values, set: u8) -> Values {
     (0..8).filter(|&condition| has(set, condition)).fold(cell, |cell, condition| with(cell, condition, 0))
 }
 

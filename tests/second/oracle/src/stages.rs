@@ -122,7 +122,7 @@ impl Compiling<'_> {
     /// function may be.
     fn dropped(&self, mut table: Table) -> Table {
         for condition in table.conditions.clone() {
-            let open = table.open(self.shape, 1 << condition, |_, limits, grade| limits.allow(grade));
+            let open = table.open(self.shape, 1 << condition, |_, limits| move |grade| limits.allow(grade));
             if let Some(limits) = open {
                 table = part(&table, &limits, |other| other != condition);
             }
