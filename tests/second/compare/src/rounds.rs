@@ -1,10 +1,10 @@
 //! What a run compares.
 
 use crate::random::Random;
-use crate::session::{Join, Outcome, Session, compile_rooms};
-use crate::tables::{all_tables, cardinality_lists, damage, some_table};
-use calls::Gate;
+use crate::session::{Block, Join, Outcome, Session, compile_rooms};
+use crate::tables::{all_tables, cardinality_lists, damage, joined_table, some_table};
 use calls::tables::OwnedTable;
+use calls::{Gate, Sets};
 
 const GATES: [Gate; 2] = [Gate::Max, Gate::Min];
 /// Values that a byte is changed to, beside its neighbours and noise.
@@ -30,7 +30,8 @@ pub fn round(session: &mut Session) -> Outcome<()> {
     lent_lengths(session)?;
     lent_shapes_and_limits(session)?;
     lent_sets(session)?;
-    foreign_networks(session)
+    foreign_networks(session)?;
+    every_pair_of_sets(session)
 }
 
 /// Every list of cardinalities, rising and falling, each with a table.
@@ -70,7 +71,7 @@ fn whole_table(session: &mut Session, table: &OwnedTable) -> Outcome<()> {
         session.evaluate(&network, &table.shape, work, cell as u32)?;
     }
     evaluate_lists(session, &network, &table.shape, work, cells)?;
-    for (s, t) in some_sets(table.shape[0], &mut session.random) {
+    for (s, t) in some_sets(table.shape[0] as usize, &mut session.random) {
         for gate in GATES {
             both_blocks(session, table, Join { gate, s, t })?;
         }
@@ -108,14 +109,20 @@ fn some_list(cells: usize, length: usize, random: &mut Random) -> Vec<u16> {
     list
 }
 
-/// All pairs of sets of up to three conditions, a few of more.
-fn some_sets(conditions: u8, random: &mut Random) -> Vec<(u8, u8)> {
+/// All pairs of sets of so many conditions that are disjoint and not empty.
+fn all_sets(conditions: usize) -> Vec<(u8, u8)> {
     let mut pairs = vec![(0u8, 0u8)];
     for condition in 0..conditions {
         let bit = 1 << condition;
         pairs = pairs.into_iter().flat_map(|(s, t)| [(s, t), (s | bit, t), (s, t | bit)]).collect();
     }
     pairs.retain(|&(s, t)| s != 0 && t != 0);
+    pairs
+}
+
+/// All pairs of sets of up to three conditions, a few of more.
+fn some_sets(conditions: usize, random: &mut Random) -> Vec<(u8, u8)> {
+    let mut pairs = all_sets(conditions);
     if conditions > 3 {
         // Small sets join more often.
         pairs.sort_by_key(|&(s, t)| (s | t).count_ones());
@@ -128,19 +135,26 @@ fn some_sets(conditions: u8, random: &mut Random) -> Vec<(u8, u8)> {
 /// The first block, and the second for first blocks that are sound, and for some that are not.
 fn both_blocks(session: &mut Session, table: &OwnedTable, join: Join) -> Outcome<()> {
     let rooms = [table.cells(); 2];
-    let Some([lower, upper]) = session.join(table, join, None, rooms)? else {
+    let Some(block) = session.join(table, join, None, rooms)? else {
         session.join(table, join, Some(&table.lower), rooms)?;
         return Ok(());
     };
-    let between = session.random.byte() % table.shape[9];
-    let clamped: Vec<u8> = lower.iter().zip(&upper).map(|(lower, upper)| between.clamp(*lower, *upper)).collect();
-    let mut changed = clamped.clone();
-    let cell = session.random.below(changed.len());
-    changed[cell] = session.random.pick(&[0, table.shape[9] - 1, table.shape[9], 255, lower[cell], upper[cell]]);
+    let [clamped, changed] = clamped_and_changed(&block, table.shape[9], &mut session.random);
+    let [lower, upper] = block;
     for first in [lower, upper, clamped, changed, table.lower.clone()] {
         session.join(table, join, Some(&first), rooms)?;
     }
     Ok(())
+}
+
+/// A first block that is one grade as far as its limits let it be, and the same with a cell changed.
+fn clamped_and_changed([lower, upper]: &Block, grades: u8, random: &mut Random) -> [Vec<u8>; 2] {
+    let between = random.byte() % grades;
+    let clamped: Vec<u8> = lower.iter().zip(upper).map(|(lower, upper)| between.clamp(*lower, *upper)).collect();
+    let mut changed = clamped.clone();
+    let cell = random.below(changed.len());
+    changed[cell] = random.pick(&[0, grades - 1, grades, 255, lower[cell], upper[cell]]);
+    [clamped, changed]
 }
 
 /// Values to try at a byte, none that it has.
@@ -406,6 +420,36 @@ fn foreign_networks(session: &mut Session) -> Outcome<()> {
             session.evaluate(&network, &table.shape, records, cell as u32)?;
         }
         evaluate_lists(session, &network, &table.shape, records, table.cells())?;
+    }
+    Ok(())
+}
+
+/// Every pair of sets of eight conditions, and of fewer that have every number of values.
+fn every_pair_of_sets(session: &mut Session) -> Outcome<()> {
+    let fewer = [&[2, 2, 3, 2, 2, 2, 2][..], &[3, 2, 2, 4, 2, 2], &[2, 7, 3, 2, 6], &[3, 8, 2, 4], &[5, 7, 6], &[8, 3]];
+    for cards in [&[2; 8][..]].into_iter().chain(fewer) {
+        for (s, t) in all_sets(cards.len()) {
+            for gate in GATES {
+                blocks_that_join(session, cards, Join { gate, s, t })?;
+            }
+        }
+    }
+    Ok(())
+}
+
+/// Both blocks of a table that joins, into buffers that are now and then longer than asked; the second for a first block
+/// that is sound, and now and then for one that is changed.
+fn blocks_that_join(session: &mut Session, cards: &[u8], join: Join) -> Outcome<()> {
+    let Join { gate, s, t } = join;
+    let table = joined_table(cards, gate, Sets { s, t }, &mut session.random);
+    let rooms = [table.cells(); 2].map(|asked| longer(asked, &mut session.random));
+    let Some(block) = session.join(&table, join, None, rooms)? else {
+        return Err(format!("case {}: {join:?} does not exist: {table:?}", session.cases));
+    };
+    let firsts = clamped_and_changed(&block, table.shape[9], &mut session.random);
+    let tried = if session.random.once_in(4) { 2 } else { 1 };
+    for first in &firsts[..tried] {
+        session.join(&table, join, Some(first), rooms)?;
     }
     Ok(())
 }

@@ -2,6 +2,7 @@
 
 use crate::random::Random;
 use calls::tables::OwnedTable;
+use calls::{Gate, Sets};
 
 /// Every list of cardinalities that does not fall, up to 1,024 cells.
 pub fn cardinality_lists() -> Vec<Vec<u8>> {
@@ -84,6 +85,26 @@ pub fn some_table(cards: &[u8], grades: u8, random: &mut Random) -> OwnedTable {
             })
         }
     }
+}
+
+/// A table that joins by these sets. On a line over one of them some four cells decide the limits, however long the line
+/// is: else a cell that is left out would seldom show.
+pub fn joined_table(cards: &[u8], gate: Gate, sets: Sets, random: &mut Random) -> OwnedTable {
+    let grades = 2 + random.below(15) as u8;
+    let width = 1 + random.below(2);
+    let idle = if gate == Gate::Max { grades - 1 } else { 0 };
+    let line = |set: u8| {
+        let within = cards.iter().enumerate().filter(|(condition, _)| set >> condition & 1 == 1);
+        within.map(|(_, &card)| card as usize).product::<usize>()
+    };
+    let mut table = OwnedTable::joined(cards, grades, gate, sets, |set| {
+        let decides = random.once_in((line(set) / 4).max(1));
+        (if decides { random.byte() } else { idle }) as usize
+    });
+    for (lower, upper) in table.lower.iter_mut().zip(&mut table.upper) {
+        (*lower, *upper) = around(*lower, grades, random, width);
+    }
+    table
 }
 
 /// A file with a few bytes changed, or with two records exchanged.
