@@ -1,10 +1,12 @@
 -- Members of a set among the low places.
-use Prim.Native.Nat.{ℕ, _≤_, _<_}
+use Prim.Native.Nat.{ℕ, _+_, _≤_, _<_}
 use mathlib.Core.Path.{_≡_, refl, sym, _∙_, ap, subst}
-use mathlib.Core.Bool.{Bool, true, false, not, _&&_}
+use mathlib.Core.Bool.{Bool, true, false, cond, not, _&&_}
 use mathlib.Core.List.{List}
 use mathlib.Core.Logic.{⊎-elim}
 use native.Mathlib.Nat.{eq-or-lt-of-le}
+use native.Mathlib.Omega.{arith}
+use borrow.Author.Count.{below-more}
 use lib.Dec.{T, ltb}
 use lib.ListN.{length, getD}
 use Rattle.rules.specs.Cell.{present, has}
@@ -36,3 +38,16 @@ lower le ne = ⊎-elim (λ e. absurd (ne e)) (λ lt. lt) (eq-or-lt-of-le le)
 -- a place that is not the lowest member lies above it
 pub above : {lowest i : ℕ} → lowest ≤ i → (i ≡ lowest → ⊥) → lowest < i
 above le ne = lower le (λ e. ne (sym e))
+
+-- the highest of the first n places that are members, and of one more
+pub record HighestOf (set n r : ℕ) : Type 0 where
+  pub top : r < 8
+  pub none : (j : ℕ) → r < j → j < n → T (has set j) → ⊥
+
+pub highest-more : (set i top r : ℕ) (member : Bool) → i < 8 → member ≡ has set i → r ≡ cond member i top → HighestOf set i top → HighestOf set (i + 1) r
+highest-more set i top r true lt e q h = record { top = omega arith; none = λ j gt lt. absurd (omega arith) }
+highest-more set i top r false lt e q h =
+    record {
+      top = let t = h .top in omega arith;
+      none = λ j gt lt. below-more (λ j. top < j → T (has set j) → ⊥) i (λ j lo up. h .none j up lo) (λ up t. subst T (sym e) t) j lt (omega arith);
+    }

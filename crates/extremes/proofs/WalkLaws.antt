@@ -1,12 +1,12 @@
 -- The walk over the classes of a set: what each of its steps leaves.
-use Prim.Native.Nat.{ℕ, suc, _+_, _-_, _*_, _/_, _%_, _≤_, _<_}
+use Prim.Native.Nat.{ℕ, zero, suc, _+_, _-_, _*_, _/_, _%_, _≤_, _<_}
 use mathlib.Core.Path.{_≡_, refl, sym, _∙_, ap, ap₂, subst}
 use mathlib.Core.Bool.{Bool, true}
 use mathlib.Core.List.{List, []}
 use mathlib.Core.Logic.{inl}
 use native.Mathlib.Omega.{arith}
 use native.Mathlib.Numerals.{add-one}
-use native.Mathlib.Nat.{mod-lt, mod-eq-of-lt, mod-add-div, mul-suc, mul-comm, mul-assoc, mul-add, mod-one, one-mul, div-div-eq-div-mul, mul-one, mul-zero, mul-pos, mul-div-cancel-left}
+use native.Mathlib.Nat.{mod-lt, mod-eq-of-lt, mod-add-div, mul-suc, mul-comm, mul-assoc, mul-add, mod-one, one-mul, div-div-eq-div-mul, mul-one, mul-zero, mul-pos, add-zero, mul-div-cancel-left}
 use lib.Dec.{T}
 use lib.ListN.{length, getD}
 use Rattle.rules.specs.Bytes.{at, tabulate}
@@ -314,6 +314,41 @@ module _ (greatest : Bool) {ks : List ℕ} {i size n : ℕ} (p : Tables ks i siz
         after = s .after;
       }
 
+-- all of a table, by the lines of condition i
+pub whole-along : {ks : List ℕ} {i n : ℕ} → Shaped ks → i < length ks → i < 8 → n ≡ cells ks → Tables ks i (step ks i * card ks i) n
+whole-along {ks} {i} {n} s h h8 e =
+    let c = counts ks i (step ks i) (card ks i) n (s .some) h refl (sym (card-read ks i h)) e in
+    let f = s .few in
+    record {
+      place = h8;
+      positive = s .some;
+      size-is = sym (step-next ks i);
+      several = record { count = n / (step ks i * card ks i); more = blocks-some c; all = e ∙ sym (c .all); some = c .size; few = omega arith };
+    }
+
+-- places without a member, from place i on
+pub climbed : (greatest : Bool) {ks : List ℕ} {set n : ℕ} {g w : List ℕ} {to : ℕ} {w′ : List ℕ} → Shaped ks → length ks ≡ 8 → n ≡ cells ks → (i k : ℕ) → i + k ≤ 8
+    → ((j : ℕ) → i ≤ j → j < 8 → T (has set j) → ⊥) → Swept greatest ks set (step ks i) n g w to n w′ → Swept greatest ks set (step ks (i + k)) n g w to n w′
+climbed greatest {ks} {set} {n} {g} {w} {to} {w′} s long e i zero h none x = subst (λ (m : ℕ). Swept greatest ks set (step ks m) n g w to n w′) (sym (add-zero i)) x
+climbed greatest {ks} {set} {n} {g} {w} {to} {w′} s long e i (suc k) h none x =
+    let d : i + suc k ≡ suc (i + k) = omega arith in
+    subst (λ (m : ℕ). Swept greatest ks set m n g w to n w′) (sym (ap (step ks) d ∙ step-next ks (i + k)))
+    (passed-swept greatest (whole-along s (omega arith) (omega arith) e) set refl (none (i + k) (omega arith) (omega arith)) (climbed greatest s long e i k (omega arith) none x))
+
+-- the walk from the highest member down is that of the whole table
+module _ {ks : List ℕ} (s : Shaped ks) (long : length ks ≡ 8) {n : ℕ} (e : n ≡ cells ks) {top size : ℕ} (h : top < 8) (es : size ≡ step ks (top + 1)) where
+  pub top-tables : Tables ks top size n
+  top-tables = subst (λ (x : ℕ). Tables ks top x n) (sym (es ∙ ap (step ks) (add-one top) ∙ step-next ks top)) (whole-along s (omega arith) h e)
+
+  pub top-over : (greatest : Bool) {set : ℕ} {g w : List ℕ} {to : ℕ} {w′ : List ℕ} → ((j : ℕ) → top < j → j < 8 → T (has set j) → ⊥) → Swept greatest ks set size n g w to n w′
+      → Laid w to (over (best greatest) ks set g) n w′
+  top-over greatest {set} {g} {w} {to} {w′} none x =
+      let k : top + 1 + (7 - top) ≡ 8 = omega arith in
+      let c = cells-pos ks (s .some) in
+      swept-over greatest e (omega arith)
+      (subst (λ (m : ℕ). Swept greatest ks set m n g w to n w′) (ap (step ks) k ∙ step-all ks 8 (omega arith) ∙ sym e)
+      (climbed greatest s long e (top + 1) (7 - top) (omega arith) (λ j le lt. none j (omega arith) lt) (subst (λ (m : ℕ). Swept greatest ks set m n g w to n w′) es x)))
+
 -- nothing is written yet
 pub swept-none : (greatest : Bool) (ks : List ℕ) (set size n : ℕ) (g w : List ℕ) (to : ℕ) → Swept greatest ks set size n g w to (size * 0) w
 swept-none greatest ks set size n g w to =
@@ -490,25 +525,3 @@ module _ {greatest : Bool} {ks : List ℕ} {i size n : ℕ} (p : Tables ks i siz
                       (member-up p set stp crd es ec m (cell o′ v′ ho′ hv′) (c-table ∙ sym (cell-table o′ v′ ho′ hv′))
                       (subst T (ap₂ (agreeOutside ks set) (mod-eq-of-lt ho ∙ sym c-row) (mod-eq-of-lt ho′ ∙ sym (cell-row o′ v′ ho′))) (k .agree)))))));
                 }
-
--- all of a table
-pub whole-along : {ks : List ℕ} {i n : ℕ} → Shaped ks → i < length ks → i < 8 → n ≡ cells ks → Tables ks i (step ks i * card ks i) n
-whole-along {ks} {i} {n} s h h8 e =
-    let c = counts ks i (step ks i) (card ks i) n (s .some) h refl (sym (card-read ks i h)) e in
-    let f = s .few in
-    record {
-      place = h8;
-      positive = s .some;
-      size-is = sym (step-next ks i);
-      several = record { count = n / (step ks i * card ks i); more = blocks-some c; all = e ∙ sym (c .all); some = c .size; few = omega arith };
-    }
-
-pub whole-tables : {ks : List ℕ} {n : ℕ} → Shaped ks → length ks ≤ 8 → n ≡ cells ks → Tables ks 7 n n
-whole-tables {ks} {n} s long e =
-    record { place = omega arith; positive = s .some; size-is = e ∙ sym (step-all ks 8 long); several = whole-several }
-  where
-    whole-several : Several n n
-    whole-several =
-        let c = cells-pos ks (s .some) in
-        let f = s .few in
-        record { count = 1; more = omega arith; all = sym (mul-one n); some = omega arith; few = omega arith }

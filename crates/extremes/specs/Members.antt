@@ -10,6 +10,11 @@ pub record IsLowest (set r : ℕ) : Type 0 where
   pub member : r < 8 → T (has set r)
   pub none : (j : ℕ) → j < r → T (has set j) → ⊥
 
+-- the highest member of a set that has one
+pub record IsHighest (set r : ℕ) : Type 0 where
+  pub top : r < 8
+  pub none : (j : ℕ) → r < j → j < 8 → T (has set j) → ⊥
+
 -- so many low places have no condition but members
 pub record IsRun (ks : List ℕ) (set r : ℕ) : Type 0 where
   pub top : r ≤ 8

@@ -134,7 +134,15 @@ pub fn along(
     let size = step * card;
     let count = n / size;
     for b in 0..count {
-        block(lent, w, greatest, from + size * b, to + size * b, step, card);
+        block(
+            lent,
+            w,
+            greatest,
+            from + size * b,
+            to + size * b,
+            step,
+            card,
+        );
     }
 }
 

@@ -26,14 +26,7 @@ pub fn line_extreme(w: &[u8], greatest: bool, a: usize, step: usize, card: usize
 }
 
 // The same of the grades.
-pub fn line_grade(
-    lent: &[u8],
-    w: &[u8],
-    greatest: bool,
-    a: usize,
-    step: usize,
-    card: usize,
-) -> u8
+pub fn line_grade(lent: &[u8], w: &[u8], greatest: bool, a: usize, step: usize, card: usize) -> u8
     requires { ⌜ Line (source (now lent) (now w)) a step card ⌝ }
     ensures { λ r. ⌜ r ≡ lineBest greatest (source (now (lent .entry)) (now (w .entry))) a step card ⌝ }
 {

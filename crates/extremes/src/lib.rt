@@ -11,7 +11,7 @@ pub mod members;
 pub mod packing;
 
 use rules::PLACES;
-ghost use Prim.Native.Nat.{_<_, _≤_};
+ghost use Prim.Native.Nat.{_/_, _<_, _≤_};
 ghost use mathlib.Core.Path.{_≡_};
 ghost use Rattle.rules.specs.Cell.{cells, singleton, over};
 ghost use Rattle.tables.specs.Line.{best};
@@ -34,6 +34,18 @@ pub fn over_one(
     ensures { λ _. ⌜ Laid (now (w .entry)) to (over (best greatest) ks (singleton i) (part (source (now (lent .entry)) (now (w .entry))) from n)) n (now (w .exit)) ⌝ }
 {
     blocks::along(lent, w, greatest, ks, i, n, from, to);
+}
+
+// How many cells a row has, of `card` rows.
+fn row_of(size: usize, card: usize) -> usize
+    requires { ⌜ 0 < card ⌝ }
+    ensures { λ r. ⌜ r ≡ size / card ⌝ }
+{
+    // Most places that are passed have no condition, and a division is dear.
+    if card == 1 {
+        return size;
+    }
+    size / card
 }
 
 // The extremes over the members up to place i, in tables of `size` cells that lie one behind the other, n in all.
@@ -63,17 +75,44 @@ fn over_places(
         return;
     }
     let card = ks[i] as usize;
-    let step = size / card;
     if !places::has_member(set, i) {
-        over_places(lent, w, greatest, ks, set, lowest, run, i - 1, step, n, from, to);
+        let below = row_of(size, card);
+        over_places(
+            lent,
+            w,
+            greatest,
+            ks,
+            set,
+            lowest,
+            run,
+            i - 1,
+            below,
+            n,
+            from,
+            to,
+        );
         return;
     }
     let none = [0u8; 0];
+    let step = size / card;
     let count = n / size;
     for b in 0..count {
         let a = to + size * b;
         blocks::first_row(lent, w, greatest, from + size * b, a, step, card);
-        over_places(&none, w, greatest, ks, set, lowest, run, i - 1, step, step, a, a);
+        over_places(
+            &none,
+            w,
+            greatest,
+            ks,
+            set,
+            lowest,
+            run,
+            i - 1,
+            step,
+            step,
+            a,
+            a,
+        );
         blocks::repeat_row(w, a, step, card);
     }
 }
@@ -98,5 +137,29 @@ pub fn over_set(
         return;
     }
     let run = members::run(ks, set);
-    over_places(lent, w, greatest, ks, set, lowest, run, PLACES - 1, n, n, from, to);
+    let top = members::highest(set);
+    let size = places::step(ks, top + 1);
+    // Most sets are one run, or one condition: there is no place to go down to.
+    if top < run {
+        blocks::runs(lent, w, greatest, size, n, from, to);
+        return;
+    }
+    if top == lowest {
+        blocks::along(lent, w, greatest, ks, top, n, from, to);
+        return;
+    }
+    over_places(
+        lent,
+        w,
+        greatest,
+        ks,
+        set,
+        lowest,
+        run,
+        top,
+        size,
+        n,
+        from,
+        to,
+    );
 }

@@ -1,9 +1,9 @@
 // The members of a set that a walk over its classes asks for.
 use rules::PLACES;
 ghost use mathlib.Core.Path.{_≡_};
-ghost use mathlib.Core.Bool.{not, _&&_};
+ghost use mathlib.Core.Bool.{cond, not, _&&_};
 ghost use lib.Dec.{ltb};
-ghost use Rattle.extremes.specs.Members.{IsLowest, IsRun};
+ghost use Rattle.extremes.specs.Members.{IsLowest, IsHighest, IsRun};
 
 // The lowest member; 8 where there is none.
 pub fn lowest(set: u8) -> usize
@@ -15,6 +15,23 @@ pub fn lowest(set: u8) -> usize
         }
     }
     PLACES
+}
+
+fn later(top: usize, i: usize, member: bool) -> usize
+    ensures { λ r. ⌜ r ≡ cond member i top ⌝ }
+{
+    if member { i } else { top }
+}
+
+// The highest member of a set that has one.
+pub fn highest(set: u8) -> usize
+    ensures { λ r. ⌜ IsHighest set r ⌝ }
+{
+    let mut top: usize = 0;
+    for i in 0..PLACES {
+        top = later(top, i, places::has_member(set, i));
+    }
+    top
 }
 
 // A condition that is there and no member.

@@ -9,7 +9,7 @@ use lib.Dec.{T}
 use Rattle.rules.specs.Cell.{has}
 use Rattle.tables.specs.Part.{part}
 use Rattle.extremes.specs.Grades.{source}
-use Rattle.extremes.specs.Walk.{Swept}
+use Rattle.extremes.specs.Walk.{Tables, Swept}
 use Rattle.extremes.proofs.GradesLaws.{source-below}
 use Rattle.extremes.proofs.BlockLaws.{counted, count-few, run-end}
 use Rattle.extremes.proofs.MemberLaws.{above, outside, inside}
@@ -21,6 +21,7 @@ use Rattle.extremes.proofs.blocks.along.Reads as along-reads
 use Rattle.extremes.proofs.blocks.first_row.Reads as first-row-reads
 use Rattle.extremes.proofs.blocks.repeat_row.Reads as repeat-row-reads
 use Rattle.extremes.proofs.blocks.runs.Reads as runs-reads
+use Rattle.extremes.proofs.row_of.Reads as row-of-reads
 use Rattle.places.proofs.has_member.Reads as has-member-reads
 use Rattle.extremes.proofs.+over_places.{statement}
 use Rattle.extremes.proofs.+over_places.Tie.{close}
@@ -37,13 +38,13 @@ over-places-below t = and 2 over-places-kinds.ps (falls 2 over-places-kinds.ps _
 
 -- what it asks and learns of the functions that it calls
 abbrev claims : ℕ → over-places-lts.Claims
-claims t = (runs-reads.Asked, runs-reads.Learnt, along-reads.Asked, along-reads.Learnt, has-member-reads.Asked, has-member-reads.Learnt, over-places-below t, over-places.Post, first-row-reads.Asked, first-row-reads.Learnt, repeat-row-reads.Asked, repeat-row-reads.Learnt)
+claims t = (runs-reads.Asked, runs-reads.Learnt, along-reads.Asked, along-reads.Learnt, has-member-reads.Asked, has-member-reads.Learnt, row-of-reads.Asked, row-of-reads.Learnt, over-places-below t, over-places.Post, first-row-reads.Asked, first-row-reads.Learnt, repeat-row-reads.Asked, repeat-row-reads.Learnt)
 
 abbrev Inv-loop : over-places-lts.InvT-loop
-Inv-loop lent w₀ greatest set lowest run i size n from to ks card step none count b₀ w b = (b ≤ count) × Swept greatest ks set size n (part (source lent w₀) from n) w₀ to (size * b) w
+Inv-loop lent w₀ greatest set lowest run i size n from to ks card none step count b₀ w b = (b ≤ count) × Swept greatest ks set size n (part (source lent w₀) from n) w₀ to (size * b) w
 
 abbrev μ-loop : over-places-lts.MeasureT-loop
-μ-loop lent w₀ greatest set lowest run i size n from to ks card step none count b₀ w b = count - b
+μ-loop lent w₀ greatest set lowest run i size n from to ks card none step count b₀ w b = count - b
 
 runs-requires : (t : ℕ) → over-places-lts.Need-runs-requires (claims t) (over-places-at t) over-places.Post Inv-loop μ-loop
 runs-requires t c κs = let b = c .before .before .before .before in (b .pre .1 .0 .several, b .pre .1 .3)
@@ -72,28 +73,32 @@ array-read-card t c = search needs
 cast-card : (t : ℕ) → over-places-lts.Need-cast-card (claims t) (over-places-at t) over-places.Post Inv-loop μ-loop
 cast-card t c = search needs
 
-div-step : (t : ℕ) → over-places-lts.Need-div-step (claims t) (over-places-at t) over-places.Post Inv-loop μ-loop
-div-step t c = card-some (c .before .before .before .before .pre .1 .0) (search needs)
-
 has-member-requires : (t : ℕ) → over-places-lts.Need-has-member-requires (claims t) (over-places-at t) over-places.Post Inv-loop μ-loop
 has-member-requires t c κs = search needs
 
+row-of-requires : (t : ℕ) → over-places-lts.Need-row-of-requires (claims t) (over-places-at t) over-places.Post Inv-loop μ-loop
+row-of-requires t c κs = card-some (c .before .before .before .before .before .before .pre .1 .0) (search needs)
+
 sub-over-places : (t : ℕ) → over-places-lts.Need-sub-over-places (claims t) (over-places-at t) over-places.Post Inv-loop μ-loop
-sub-over-places t c = let b = c .before .before .before .before .before .before .before in let l = b .pre .1 .2 in omega (arith, above (b .pre .1 .2) (c .before .before .before .if2 .left))
+sub-over-places t c = omega (arith, above (c .before .before .before .before .before .before .before .before .pre .1 .2) (c .before .before .before .before .if2 .left))
 
 over-places-requires : (t : ℕ) → over-places-lts.Need-over-places-requires (claims t) (over-places-at t) over-places.Post Inv-loop μ-loop
 over-places-requires t c κs =
-    let b = c .before .before .before .before .before .before .before in
-    let i = above (b .pre .1 .2) (c .before .before .before .if2 .left) in
-    (let e = b .pre .0 in omega arith, (tables-down (b .pre .1 .0) (search needs) (omega arith), b .pre .1 .1, omega arith, b .pre .1 .3))
+    let b = c .before .before .before .before .before .before .before .before in
+    let i = above (b .pre .1 .2) (c .before .before .before .before .if2 .left) in
+    let e = b .pre .0 in
+    (omega arith, (subst (λ (r : ℕ). Tables (b .args .t4) (b .args .i - 1) r (b .args .n)) (sym (c .before .row-of .ensures)) (tables-down (b .pre .1 .0) (search needs) (omega arith)), b .pre .1 .1, omega arith, b .pre .1 .3))
 
 same-length-3 : (t : ℕ) → over-places-lts.Need-same-length-3 (claims t) (over-places-at t) over-places.Post Inv-loop μ-loop
 same-length-3 t c = search needs
 
 returns-3 : (t : ℕ) → over-places-lts.Need-returns-3 (claims t) (over-places-at t) over-places.Post Inv-loop μ-loop
 returns-3 t c =
-    let b = c .before .before .before .before .before .before .before .before .before .before in
-    passed-swept (b .args .greatest) (b .pre .1 .0) (b .args .set) (step-is (b .pre .1 .0) (search needs)) (outside (b .args .set) (b .args .i) (c .before .before .before .before .before .has-member .ensures) (c .before .before .before .before .if3 .taken)) (c .before .before .over-places .ensures)
+    let b = c .before .before .before .before .before .before .before .before .before .before .before in
+    passed-swept (b .args .greatest) (b .pre .1 .0) (b .args .set) (c .before .before .before .before .row-of .ensures ∙ step-is (b .pre .1 .0) (search needs)) (outside (b .args .set) (b .args .i) (c .before .before .before .before .before .before .has-member .ensures) (c .before .before .before .before .before .if3 .taken)) (c .before .before .over-places .ensures)
+
+div-step : (t : ℕ) → over-places-lts.Need-div-step (claims t) (over-places-at t) over-places.Post Inv-loop μ-loop
+div-step t c = card-some (c .before .before .before .before .before .before .pre .1 .0) (search needs)
 
 div-count : (t : ℕ) → over-places-lts.Need-div-count (claims t) (over-places-at t) over-places.Post Inv-loop μ-loop
 div-count t c = c .before .before .before .before .before .before .pre .1 .0 .several .some
@@ -169,4 +174,4 @@ returns-4 t c =
 pub +over-places-spec : {M : Type 1} → statement M
 +over-places-spec =
     close μ-over-places λ t.
-    over-places-lts.spec (claims t) (over-places-at t) over-places.Post Inv-loop μ-loop (runs-requires t) (same-length t) (returns t) (along-requires t) (same-length-2 t) (returns-2 t) (array-read-card t) (cast-card t) (div-step t) (has-member-requires t) (sub-over-places t) (over-places-requires t) (same-length-3 t) (returns-3 t) (div-count t) (loop-holds t) (mul-a t) (add-a t) (mul-first-row t) (add-first-row t) (first-row-requires t) (slice-aggregate-over-places t) (sub-over-places-2 t) (over-places-requires-2 t) (repeat-row-requires t) (add-b t) (loop-less t) (loop-again t) (same-length-4 t) (returns-4 t)
+    over-places-lts.spec (claims t) (over-places-at t) over-places.Post Inv-loop μ-loop (runs-requires t) (same-length t) (returns t) (along-requires t) (same-length-2 t) (returns-2 t) (array-read-card t) (cast-card t) (has-member-requires t) (row-of-requires t) (sub-over-places t) (over-places-requires t) (same-length-3 t) (returns-3 t) (div-step t) (div-count t) (loop-holds t) (mul-a t) (add-a t) (mul-first-row t) (add-first-row t) (first-row-requires t) (slice-aggregate-over-places t) (sub-over-places-2 t) (over-places-requires-2 t) (repeat-row-requires t) (add-b t) (loop-less t) (loop-again t) (same-length-4 t) (returns-4 t)
