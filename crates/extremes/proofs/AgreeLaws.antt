@@ -1,15 +1,13 @@
 -- Cells that agree outside a set, place by place.
-use Prim.Native.Nat.{ℕ, zero, suc, _+_, _*_, _/_, _%_, _≤_, _<_}
-use mathlib.Core.Path.{_≡_, refl, sym, _∙_, ap, ap₂}
+use Prim.Native.Nat.{ℕ, zero, suc, _*_, _/_, _%_, _≤_, _<_}
+use mathlib.Core.Path.{_≡_, refl, sym, _∙_, ap}
 use mathlib.Core.List.{List, [], _∷_}
-use mathlib.Core.Logic.{⊎-elim}
 use native.Mathlib.Omega.{arith}
-use native.Mathlib.Nat.{le-refl, le-trans, le-of-suc-le-suc, not-suc-le-zero, eq-or-lt-of-le, mod-lt, mod-eq-of-lt, mod-add-div, mul-one, div-div-eq-div-mul}
+use native.Mathlib.Nat.{le-of-suc-le-suc, not-suc-le-zero, mod-lt, mod-eq-of-lt, mul-one}
 use lib.Dec.{T}
-use lib.ListN.{length}
-use Rattle.rules.specs.Cell.{Positive, cells, card, present, step, value, has, agreeOutside}
-use Rattle.laws.proofs.TestLaws.{by-order, by-test}
-use Rattle.laws.proofs.CellLaws.{div-below, not-above, card-pos, value-lt, value-inj, agree-value, value-agree}
+use Rattle.rules.specs.Cell.{Positive, card, present, step, value, has, agreeOutside}
+use Rattle.laws.proofs.TestLaws.{by-order}
+use Rattle.laws.proofs.CellLaws.{div-below, not-above, value-lt, value-inj, agree-value, value-agree}
 use Rattle.laws.proofs.LineLaws.{mod-mul, step-pos, step-next, value-step}
 use Rattle.laws.proofs.LoopLaws.{step-le, step-start}
 use Rattle.laws.proofs.UnionLaws.{digit-mod, digit-div}

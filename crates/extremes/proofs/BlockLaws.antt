@@ -19,7 +19,7 @@ use Rattle.tables.specs.Part.{part, Laid}
 use Rattle.tables.specs.Line.{lineBest, Line, Spread, alongLines}
 use Rattle.tables.proofs.PartLaws.{Filled}
 use Rattle.tables.proofs.LineLaws.{line-end, line-same, line-table, lines-apart}
-use Rattle.extremes.specs.Grades.{source, Room, Reads}
+use Rattle.extremes.specs.Grades.{source, Reads}
 use Rattle.extremes.specs.Walk.{BlockSet, Several, Tables}
 use Rattle.extremes.proofs.GradesLaws.{unread, source-length}
 

@@ -10,7 +10,7 @@ use native.Mathlib.Nat.{mod-lt, mod-eq-of-lt, mod-add-div, mul-suc, mul-comm, mu
 use lib.Dec.{T}
 use lib.ListN.{length, getD}
 use Rattle.rules.specs.Bytes.{at, tabulate}
-use Rattle.rules.specs.Cell.{Positive, cells, card, present, step, has, agreeOutside, overTo, over}
+use Rattle.rules.specs.Cell.{cells, card, present, step, has, agreeOutside, overTo, over}
 use Rattle.laws.proofs.OverLaws.{Bound, overTo-at, overTo-both, agree-refl}
 use Rattle.laws.proofs.TableLaws.{at-tabulate}
 use Rattle.laws.proofs.TestLaws.{by-order}
@@ -18,7 +18,7 @@ use Rattle.laws.proofs.CellLaws.{div-below, card-pos, cells-pos}
 use Rattle.laws.proofs.LineLaws.{step-pos, step-next, step-all}
 use Rattle.laws.proofs.UnionLaws.{digit-mod, digit-div, digit-below}
 use Rattle.tables.specs.Part.{part, Laid, Shaped}
-use Rattle.tables.specs.Line.{best, order, lineBest, alongLines, Block}
+use Rattle.tables.specs.Line.{best, order, lineBest, alongLines}
 use Rattle.tables.proofs.PartLaws.{part-at}
 use Rattle.tables.proofs.LineLaws.{best-bound, line-end}
 use Rattle.tables.proofs.OverLaws.{blocks-some}

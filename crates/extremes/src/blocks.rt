@@ -2,9 +2,7 @@
 use crate::grades;
 use rules::PLACES;
 use tables::fill;
-ghost use Prim.Native.Nat.{ℕ, _+_, _*_, _/_, _≤_, _<_};
-ghost use mathlib.Core.Path.{_≡_};
-ghost use lib.ListN.{length};
+ghost use Prim.Native.Nat.{_+_, _*_, _/_, _<_};
 ghost use Rattle.rules.specs.Bytes.{tabulate};
 ghost use Rattle.rules.specs.Cell.{card, step};
 ghost use Rattle.tables.specs.Line.{lineBest, Line, Spread, Block, alongLines};

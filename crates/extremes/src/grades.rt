@@ -7,7 +7,7 @@ ghost use lib.ListN.{length};
 ghost use Rattle.rules.specs.Bytes.{at, tabulate};
 ghost use Rattle.tables.specs.Line.{best, lineBest, Line};
 ghost use Rattle.tables.specs.Part.{part, Laid, Two};
-ghost use Rattle.extremes.specs.Grades.{source, Room, Reads};
+ghost use Rattle.extremes.specs.Grades.{source, Reads};
 
 // The extreme of the bytes at a, a + step, .., card of them.
 pub fn line_extreme(w: &[u8], greatest: bool, a: usize, step: usize, card: usize) -> u8

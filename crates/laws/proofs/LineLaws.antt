@@ -1,21 +1,20 @@
 -- What the loops compute: over one condition, over a set, a value, and a cell with one value put.
 use Prim.Native.Nat.{ℕ, zero, suc, _+_, _*_, _/_, _%_, _≤_, _<_}
 use mathlib.Core.Path.{_≡_, refl, sym, _∙_, ap, ap₂, subst}
-use mathlib.Core.Bool.{Bool, true, false, not, cond, _||_}
+use mathlib.Core.Bool.{Bool, true, false, not, _||_}
 use mathlib.Core.List.{List, [], _∷_}
 use mathlib.Core.Logic.{_⊎_, inl, inr, ⊎-elim}
-use native.Mathlib.Nat.{le-refl, add-assoc, mul-assoc, mul-add, mul-pos, mod-lt, mod-one, div-one, mod-eq-of-lt, div-div-eq-div-mul, not-suc-le-zero, le-of-suc-le-suc, eq-or-lt-of-le, mod-add-div}
+use native.Mathlib.Nat.{le-refl, add-assoc, mul-assoc, mul-add, mul-pos, mod-lt, mod-one, div-one, mod-eq-of-lt, div-div-eq-div-mul, not-suc-le-zero, le-of-suc-le-suc, mod-add-div}
 use native.Mathlib.Omega.{arith}
 use lib.Dec.{T, eqb, eqb→eq, eqb-refl}
 use lib.ListN.{length, drop}
-use Rattle.rules.specs.Bytes.{pick, at, numbersFrom}
+use Rattle.rules.specs.Bytes.{pick, at}
 use Rattle.rules.specs.Cell.{Positive, cells, card, step, value, cell, remap, put, has, insert, singleton, without, agreeOutside, over, overTo}
-use Rattle.rules.specs.Demands.{Subset}
-use Rattle.laws.proofs.OverLaws.{Bound, agree-part, over-at, over-self, over-bound, overTo-at, overTo-both, subset}
+use Rattle.laws.proofs.OverLaws.{Bound, over-at, over-self, over-bound, overTo-at, overTo-both, subset}
 use Rattle.laws.proofs.TableLaws.{at-tabulate, tabulate-same}
-use Rattle.laws.proofs.TestLaws.{and-i, by-test, cond-ok}
+use Rattle.laws.proofs.TestLaws.{and-i, by-test}
 use Rattle.laws.proofs.UnionLaws.{digit-mod, digit-div, digit-below, cover, over-over}
-use Rattle.laws.proofs.SetLaws.{has-same, has-keep, has-none, insert-has, singleton-has}
+use Rattle.laws.proofs.SetLaws.{has-same, has-keep, insert-has, singleton-has}
 use Rattle.laws.proofs.CellLaws.{div-below, cell-value, value-lt, value-inj, agree-value, value-agree}
 use Rattle.laws.proofs.LowestLaws.{without-none, without-suc}
 
@@ -174,14 +173,6 @@ module _ {op : ℕ → ℕ → ℕ} {R : ℕ → ℕ → Type 0} (B : Bound op R
       (overTo-both B (λ v. true) (λ v. at f (put ks c i v)) (at f c) _ (card ks i) (over-self B ks (singleton i) f c hc)
       (λ v hv t. over-at B ks (singleton i) f c (put ks c i v) hc (put-lt ks c i v p hc hv) (agree-put ks c i v p hv)))
 
-  -- over no condition
-  pub over-none : (ks : List ℕ) (f : List ℕ) (c : ℕ) → Positive ks → c < cells ks → at (over op ks 0 f) c ≡ at f c
-  over-none ks f c p hc =
-      B .anti
-      (over-bound B ks 0 f c (at f c) hc
-      (λ d hd a. subst (λ (x : ℕ). R (at f x) (at f c)) (value-inj ks p c d hc hd (λ j. agree-value ks 0 c d j a (has-none j))) (B .self (at f c))))
-      (over-self B ks 0 f c hc)
-
   -- tables that are equal at every cell
   pub over-same : (ks : List ℕ) (t : ℕ) (f g : List ℕ) → ((c : ℕ) → c < cells ks → at f c ≡ at g c) → over op ks t f ≡ over op ks t g
   over-same ks t f g eq = tabulate-same (cells ks) _ _ (λ c hc. go c hc (cells ks) (le-refl _))
@@ -193,14 +184,6 @@ module _ {op : ℕ → ℕ → ℕ} {R : ℕ → ℕ → Type 0} (B : Bound op R
   over-ext : (ks : List ℕ) (s t : ℕ) (f g : List ℕ) → ((c : ℕ) → c < cells ks → at (over op ks s f) c ≡ at (over op ks t g) c) → over op ks s f ≡ over op ks t g
   over-ext ks s t f g h = tabulate-same (cells ks) _ _ (λ c hc. sym (at-tabulate (cells ks) _ c hc) ∙ h c hc ∙ at-tabulate (cells ks) _ c hc)
 
-  -- sets with the same conditions of the shape
-  pub over-sets : (ks : List ℕ) (s t : ℕ) (f : List ℕ) → T (subset ks s t) → T (subset ks t s) → over op ks s f ≡ over op ks t f
-  over-sets ks s t f p q =
-      over-ext ks s t f f
-      (λ c hc.
-      B .anti (over-bound B ks s f c _ hc (λ d hd a. over-at B ks t f c d hc hd (agree-part ks s t c d p a)))
-      (over-bound B ks t f c _ hc (λ d hd a. over-at B ks s f c d hc hd (agree-part ks t s c d q a))))
-
   -- over a set and one condition more
   pub over-insert : (ks : List ℕ) (f : List ℕ) (t i : ℕ) → Positive ks → over op ks (singleton i) (over op ks t f) ≡ over op ks (insert t i) f
   over-insert ks f t i p =
@@ -211,40 +194,3 @@ module _ {op : ℕ → ℕ → ℕ} {R : ℕ → ℕ → Type 0} (B : Bound op R
       (part-in ks t (insert t i) (λ j l h. has-keep t i j h))
       (cover-in ks (insert t i) (singleton i) t (λ j h. ⊎-elim (λ e. inl (subst (λ (x : ℕ). T (has (singleton i) x)) (sym e) (has-same 0 i))) (λ r. inr r) (insert-has t i j h)))
       c hc)
-
-  -- over a set: one of its conditions after the other
-  abbrev pub overEach : List ℕ → ℕ → List ℕ → List ℕ → List ℕ
-  overEach ks s [] f = f
-  overEach ks s (i ∷ is) f = overEach ks s is (cond (has s i) (over op ks (singleton i) f) f)
-
-  -- u being the conditions of s before a
-  over-from : (ks : List ℕ) (s a n u : ℕ) (f : List ℕ) → Positive ks → length ks ≤ a + n → Subset u s → ((i : ℕ) → i < a → T (has s i) → T (has u i))
-      → overEach ks s (numbersFrom a n) (over op ks u f) ≡ over op ks s f
-  over-from ks s a zero u f p h pu all =
-      over-sets ks u s f (part-in ks u s (λ i l q. pu i q)) (part-in ks s u (λ i l q. all i (omega arith) q))
-  over-from ks s a (suc n) u f p h pu all =
-      cond-ok (λ (g : List ℕ). overEach ks s (numbersFrom (suc a) n) g ≡ over op ks s f) (has s a) (over op ks (singleton a) (over op ks u f)) (over op ks u f)
-      (λ b.
-      ap (overEach ks s (numbersFrom (suc a) n)) (over-insert ks f u a p)
-      ∙ over-from ks s (suc a) n (insert u a) f p (omega arith)
-      (λ i q. ⊎-elim (λ e. subst (λ (x : ℕ). T (has s x)) (sym e) b) (λ r. pu i r) (insert-has u a i q))
-      (λ i l q. ⊎-elim (λ e. subst (λ (x : ℕ). T (has (insert u a) x)) (sym e) (has-same u a)) (λ l. has-keep u a i (all i l q)) (eq-or-lt-of-le (le-of-suc-le-suc l))))
-      (λ b.
-      over-from ks s (suc a) n u f p (omega arith) pu
-      (λ i l q. ⊎-elim (λ e. absurd (b (subst (λ (x : ℕ). T (has s x)) e q))) (λ l. all i l q) (eq-or-lt-of-le (le-of-suc-le-suc l))))
-
-  -- the loop over the places, from the table itself
-  pub over-each : (ks : List ℕ) (s : ℕ) (f : List ℕ) → Positive ks → (c : ℕ) → c < cells ks → at (overEach ks s (numbersFrom 0 (length ks)) f) c ≡ at (over op ks s f) c
-  over-each ks s f p c hc =
-      each-same ks s (numbersFrom 0 (length ks)) f (over op ks 0 f) (λ d hd. sym (over-none ks f d p hd)) c hc
-      ∙ ap (λ (l : List ℕ). at l c) (over-from ks s 0 (length ks) 0 f p (omega arith) (λ i q. absurd (has-none i q)) (λ i l q. absurd (not-suc-le-zero l)))
-    where
-      each-same : (ks : List ℕ) (s : ℕ) (is : List ℕ) (f g : List ℕ) → ((c : ℕ) → c < cells ks → at f c ≡ at g c)
-          → (c : ℕ) → c < cells ks → at (overEach ks s is f) c ≡ at (overEach ks s is g) c
-      each-same ks s [] f g eq = eq
-      each-same ks s (i ∷ is) f g eq =
-          each-same ks s is _ _ (one (has s i))
-        where
-          one : (o : Bool) → (c : ℕ) → c < cells ks → at (cond o (over op ks (singleton i) f) f) c ≡ at (cond o (over op ks (singleton i) g) g) c
-          one true c hc = ap (λ (l : List ℕ). at l c) (over-same ks (singleton i) f g eq)
-          one false c hc = eq c hc

@@ -5,15 +5,37 @@ use places::sets;
 use rules::PLACES;
 ghost use mathlib.Core.Path.{_≡_};
 ghost use mathlib.Core.Bool.{cond};
+ghost use mathlib.Core.Logic.{_⊎_};
 ghost use Rattle.rules.specs.Cell.{cells, singleton, without};
 ghost use Rattle.rules.specs.Stage.{outside, merged, fits, dropOne, left};
-ghost use Rattle.tables.specs.Line.{Counts};
+ghost use Prim.Native.Nat.{_+_, _*_, _≤_};
+ghost use Rattle.tables.specs.Line.{Blocks, lineExtremes, Counts};
+ghost use Rattle.tables.specs.Part.{Laid};
 ghost use Rattle.stage_drops.specs.Working.{Room, frontStage, Turned};
 
 // What a stage has left: its places, and how many cells these have.
 pub struct Left {
     pub places: [u8; PLACES],
     pub cells: usize,
+}
+
+// The extremes along the lines of the table of n cells that lies `from` bytes behind a, one for each line, at a. No
+// other byte is lent for them than the table's and those before it.
+fn pack(
+    w: &mut [u8],
+    greatest: bool,
+    a: usize,
+    from: usize,
+    n: usize,
+    count: usize,
+    step: usize,
+    card: usize,
+)
+    requires { ⌜ Blocks (now w) (a + from) count step card × (n ≡ step * card * count) × ((from ≡ 0) ⊎ (step ≤ from)) ⌝ }
+    ensures { λ _. ⌜ Laid (now (w .entry)) a (lineExtremes greatest (now (w .entry)) (a + from) step card count) (step * count) (now (w .exit)) ⌝ }
+{
+    let size = from + n;
+    packing::pack_blocks(&mut w[a..a + size], greatest, from, 0, count, step, card);
 }
 
 // The stage without condition i, under the limits that are left when it is dropped.
@@ -23,8 +45,9 @@ fn drop_condition(w: &mut [u8], ks: [u8; PLACES], i: usize, n: usize, step: usiz
 {
     let card = ks[i] as usize;
     let count = n / (step * card);
-    packing::pack_blocks(w, true, 0, 0, count, step, card);
-    packing::pack_blocks(w, false, n, step * count, count, step, card);
+    let left = step * count;
+    pack(w, true, 0, 0, n, count, step, card);
+    pack(w, false, left, n - left, n, count, step, card);
 }
 
 // Whether condition i can be dropped: no lower grade is above the least upper grade over it.

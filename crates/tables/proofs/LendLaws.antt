@@ -1,10 +1,10 @@
 -- A part of a buffer that is lent on, the k bytes from a on, and the buffer when it comes back.
 use Prim.Native.Nat.{ℕ, _+_, _-_, _≤_, _<_}
-use mathlib.Core.Path.{_≡_, sym, _∙_, ap, subst}
+use mathlib.Core.Path.{_≡_, sym, _∙_, ap}
 use mathlib.Core.List.{List, _++_}
 use native.Mathlib.Omega.{arith}
 use borrow.Rule.Slice.PartMut.{putMid, postOf, same-len-mid}
-use lib.ListN.{length, take, drop, length-take, length-drop, List·getD-append}
+use lib.ListN.{length, take, drop, length-take, List·getD-append}
 use lib.Seq.{getD-take, getD-drop, getD-append-add}
 use Rattle.rules.specs.Bytes.{at}
 use Rattle.laws.proofs.TestLaws.{by-order}

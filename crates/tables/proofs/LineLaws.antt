@@ -6,20 +6,17 @@ use mathlib.Core.List.{List}
 use mathlib.Core.Logic.{⊎-elim}
 use native.Mathlib.Omega.{arith}
 use native.Mathlib.Numerals.{add-one}
-use native.Mathlib.Nat.{mul-one, mul-comm, mul-assoc, mul-add, mul-le-mul-left, mul-suc, mod-lt, mod-add-div}
+use native.Mathlib.Nat.{mul-one, mul-comm, mul-assoc, mul-add, mul-le-mul-left, mul-suc}
 use borrow.Author.Count.{below-more}
 use lib.ListN.{length, set, length-set}
 use lib.Seq.{getD-set-same, getD-set-other}
 use Rattle.rules.specs.Bytes.{at}
 use Rattle.rules.specs.Cell.{overTo}
 use Rattle.laws.proofs.OverLaws.{Bound, max-bound, min-bound, overTo-at, overTo-both}
-use Rattle.laws.proofs.TestLaws.{by-order}
-use Rattle.laws.proofs.CellLaws.{div-below}
-use Rattle.laws.proofs.TableLaws.{at-tabulate}
 use Rattle.laws.proofs.UnionLaws.{digit-mod, digit-div, digit-below}
 use Rattle.tables.specs.Part.{part, Apart}
 use Rattle.tables.specs.Line.{best, order, lineBest, Line, Spread, Block, Blocks}
-use Rattle.tables.proofs.PartLaws.{part-at, Filled}
+use Rattle.tables.proofs.PartLaws.{part-at}
 
 -- equal bytes have equal extremes
 over-along : (op : ℕ → ℕ → ℕ) (f g : ℕ → ℕ) (a b n : ℕ) → a ≡ b → ((v : ℕ) → v < n → f v ≡ g v) → overTo op (λ u. true) f a n ≡ overTo op (λ u. true) g b n
@@ -98,11 +95,16 @@ lines-apart a step o p v u h g ne e =
     let q : o + step * v ≡ p + step * u = omega arith in
     ne (sym (digit-mod step o v h) ∙ ap (λ (x : ℕ). x % step) q ∙ digit-mod step p u g)
 
-pub line-same : (greatest : Bool) (w w′ : List ℕ) (a step card : ℕ) → 0 < card → ((v : ℕ) → v < card → at w′ (a + step * v) ≡ at w (a + step * v)) → lineBest greatest w′ a step card ≡ lineBest greatest w a step card
+-- lines with the same bytes, in two buffers; and at the same place
+pub line-alike : (greatest : Bool) (w w′ : List ℕ) (a b step card : ℕ) → 0 < card → ((v : ℕ) → v < card → at w′ (b + step * v) ≡ at w (a + step * v))
+    → lineBest greatest w′ b step card ≡ lineBest greatest w a step card
 unfolding lineBest
-line-same greatest w w′ a step card p h =
-    over-along (best greatest) (λ v. at w′ (a + step * v)) (λ v. at w (a + step * v)) (at w′ a) (at w a) card
-    (let z : a ≡ a + step * 0 = omega arith in subst (λ (x : ℕ). at w′ x ≡ at w x) (sym z) (h 0 p)) h
+line-alike greatest w w′ a b step card p h =
+    over-along (best greatest) (λ v. at w′ (b + step * v)) (λ v. at w (a + step * v)) (at w′ b) (at w a) card
+    (let y : b + step * 0 ≡ b = omega arith in let z : a + step * 0 ≡ a = omega arith in sym (ap (at w′) y) ∙ h 0 p ∙ ap (at w) z) h
+
+pub line-same : (greatest : Bool) (w w′ : List ℕ) (a step card : ℕ) → 0 < card → ((v : ℕ) → v < card → at w′ (a + step * v) ≡ at w (a + step * v)) → lineBest greatest w′ a step card ≡ lineBest greatest w a step card
+line-same greatest w w′ a step card p h = line-alike greatest w w′ a a step card p h
 
 -- the extreme of some numbers is the same from whichever of them it starts
 seed-any : (greatest : Bool) (f : ℕ → ℕ) (i j n : ℕ) → i < n → j < n → overTo (best greatest) (λ u. true) f (f i) n ≡ overTo (best greatest) (λ u. true) f (f j) n

@@ -1,21 +1,18 @@
 -- Over one condition.
 use Prim.Native.Nat.{ℕ, zero, suc, _+_, _*_, _/_, _≤_, _<_}
 use mathlib.Core.Path.{_≡_, refl, sym, _∙_, ap, ap₂}
-use mathlib.Core.Bool.{Bool, true, false, cond}
+use mathlib.Core.Bool.{Bool}
 use mathlib.Core.List.{List, [], _∷_}
-use native.Mathlib.Nat.{add-zero, zero-add, mul-assoc, one-mul, mul-zero, mul-div-cancel-left}
-use native.Mathlib.Numerals.{add-one}
+use native.Mathlib.Nat.{mul-assoc, one-mul, mul-zero, mul-div-cancel-left}
 use native.Mathlib.Omega.{arith}
 use lib.ListN.{length, drop, getD}
-use Rattle.rules.specs.Bytes.{at, numbersFrom}
-use Rattle.rules.specs.Cell.{Positive, cells, card, step, has, singleton, over}
-use Rattle.laws.proofs.CellLaws.{card-pos, cells-pos}
-use Rattle.laws.proofs.LineLaws.{step-pos, step-next, over-same, overEach, over-each}
+use Rattle.rules.specs.Bytes.{at}
+use Rattle.rules.specs.Cell.{Positive, cells, card, step, singleton, over}
+use Rattle.laws.proofs.CellLaws.{card-pos}
+use Rattle.laws.proofs.LineLaws.{step-pos, step-next}
 use Rattle.laws.proofs.LoopLaws.{card-read, step-le, over-steps}
 use Rattle.laws.proofs.TableLaws.{at-tabulate}
-use Rattle.tables.specs.Part.{part, Laid}
 use Rattle.tables.specs.Line.{best, Blocks, alongLines}
-use Rattle.tables.proofs.PartLaws.{part-at, laid-same, laid-then}
 use Rattle.tables.proofs.LineLaws.{best-bound}
 
 -- the places from i on

@@ -4,7 +4,7 @@ use mathlib.Core.Path.{_≡_, sym, _∙_, ap, ap₂}
 use mathlib.Core.Bool.{Bool, true}
 use mathlib.Core.List.{List}
 use mathlib.Core.Logic.{_⊎_, ⊎-elim, inl, inr}
-use native.Mathlib.Nat.{mul-comm, mul-assoc, mul-suc, mul-zero, mul-one, mul-le-mul-left, mul-le-mul-right, mod-lt}
+use native.Mathlib.Nat.{add-zero, mul-comm, mul-assoc, mul-suc, mul-zero, mul-one, one-mul, mul-le-mul-left, mul-le-mul-right, mod-lt}
 use native.Mathlib.Numerals.{add-one}
 use native.Mathlib.Omega.{arith}
 use lib.ListN.{length}
@@ -18,8 +18,9 @@ use Rattle.laws.proofs.TestLaws.{by-order}
 use Rattle.laws.proofs.UnionLaws.{digit-mod, digit-div, digit-below}
 use Rattle.tables.specs.Part.{part, Laid}
 use Rattle.tables.specs.Line.{best, lineBest, Blocks, lineExtremes}
-use Rattle.tables.proofs.PartLaws.{Filled}
-use Rattle.tables.proofs.LineLaws.{line-same, line-table, best-bound}
+use Rattle.tables.proofs.PartLaws.{Filled, laid-same}
+use Rattle.tables.proofs.LendLaws.{lent, back, lent-at, laid-back}
+use Rattle.tables.proofs.LineLaws.{line-same, line-alike, line-table, best-bound}
 use Rattle.tables.proofs.OverLaws.{Counted, blocks-some}
 
 -- lines that start where nothing is written, or behind, are as they were
@@ -88,6 +89,34 @@ module _ {w : List ℕ} {a to count step card : ℕ} (p : Blocks w a count step 
           ∙ unpacked greatest (a + step * card * b + o) step card (p .some) l (omega (arith, behind b))
           ∙ ap (λ (x : ℕ). lineBest greatest w x step card) j
           ∙ ap₂ (λ (x y : ℕ). lineBest greatest w (a + (x + step * card * y)) step card) (sym row) (sym number)
+
+-- packed in a part of a buffer that is lent, and is the whole of it from the table's last byte down
+pub packed-lent : (greatest : Bool) (w : List ℕ) (a from n : ℕ) {count step card : ℕ} {v : List ℕ} → Blocks w (a + from) count step card → n ≡ step * card * count
+    → Laid (lent a (from + n) w) 0 (lineExtremes greatest (lent a (from + n) w) from step card count) (step * count) v
+    → Laid w a (lineExtremes greatest w (a + from) step card count) (step * count) (back a (from + n) w v)
+packed-lent greatest w a from n {count} {step} {card} {v} p e l =
+    let b = laid-back a (from + n) (let i = p .inside in omega arith) (omega (arith, few)) l in
+    laid-same _ (rw (add-zero a) at b)
+    (λ q lt.
+    at-tabulate (step * count) _ q lt
+    ∙ line-alike greatest w (lent a (from + n) w) (a + from + (q % step + step * card * (q / step))) (from + (q % step + step * card * (q / step))) step card (p .some) (λ u hu. same q lt u hu)
+    ∙ sym (at-tabulate (step * count) _ q lt))
+  where
+    few : step * count ≤ n
+    few = omega (arith, mul-le-mul-right (step * count) (p .some), mul-assoc card step count, ap (λ (x : ℕ). x * count) (mul-comm step card), one-mul (step * count))
+
+    same : (q : ℕ) → q < step * count → (u : ℕ) → u < card
+        → at (lent a (from + n) w) (from + (q % step + step * card * (q / step)) + step * u) ≡ at w (a + from + (q % step + step * card * (q / step)) + step * u)
+    same q lt u hu =
+        let i = from + (q % step + step * card * (q / step)) + step * u in
+        let z : a + i ≡ a + from + (q % step + step * card * (q / step)) + step * u = omega arith in
+        lent-at a (from + n) w i
+        (omega (
+          arith,
+          digit-below (step * card) (q % step + step * u) (q / step) count (digit-below step (q % step) u card (mod-lt q (p .steps)) hu)
+              (div-below q step count (p .steps) lt),
+        ))
+        ∙ ap (at w) z
 
 -- there are no more lines than cells
 pub packed-low : {ks : List ℕ} {i stp crd count : ℕ} → Counted ks i stp crd count → stp * count ≤ cells ks

@@ -1,5 +1,4 @@
 -- `extremes::over_one` meets its contract.
-use mathlib.Core.Path.{sym}
 use borrow.Author.Needs.{needs}
 use Rattle.tables.proofs.PartLaws.{laid-same}
 use Rattle.tables.proofs.OverLaws.{along-over}

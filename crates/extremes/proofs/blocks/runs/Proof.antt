@@ -1,15 +1,15 @@
 -- `extremes::blocks::runs` meets its contract.
-use Prim.Native.Nat.{ℕ, _+_, _-_, _*_, _/_, _^_, _≤_, _<_}
+use Prim.Native.Nat.{ℕ, _-_, _*_, _/_, _^_, _≤_}
 use mathlib.Core.Path.{_≡_, refl, ap, _∙_, sym}
 use native.Mathlib.Omega.{arith}
-use native.Mathlib.Nat.{mul-zero, one-mul}
+use native.Mathlib.Nat.{mul-zero}
 use borrow.Author.Needs.{needs}
 use Rattle.rules.specs.Bytes.{at}
 use Rattle.tables.specs.Part.{part}
 use Rattle.tables.specs.Line.{alongLines}
 use Rattle.tables.proofs.PartLaws.{Filled, filled-none, filled-laid}
 use Rattle.extremes.specs.Grades.{source}
-use Rattle.extremes.proofs.GradesLaws.{source-below, reads-on, room-same}
+use Rattle.extremes.proofs.GradesLaws.{source-below}
 use Rattle.extremes.proofs.BlockLaws.{counted, count-few, run-end, runs-more, run-set, run-line}
 use Rattle.extremes.proofs.blocks.runs.Statement.{statement}
 use Rattle.extremes.proofs.blocks.runs.Tie as tie

@@ -1,10 +1,8 @@
 -- `extremes::grades::fold_row` meets its contract.
-use Prim.Native.Nat.{ℕ, _+_, _≤_}
-use mathlib.Core.Path.{_≡_, _∙_, sym, ap, subst}
-use mathlib.Core.List.{List}
+use Prim.Native.Nat.{_+_}
+use mathlib.Core.Path.{_∙_, sym, ap}
 use native.Mathlib.Omega.{arith}
 use borrow.Author.Needs.{needs}
-use lib.ListN.{length}
 use Rattle.rules.specs.Bytes.{at}
 use Rattle.laws.proofs.TableLaws.{at-tabulate}
 use Rattle.tables.specs.Line.{best}

@@ -1,5 +1,5 @@
 -- `extremes::members::is_outside` meets its contract.
-use mathlib.Core.Path.{_≡_, refl, sym, _∙_, ap}
+use mathlib.Core.Path.{sym, _∙_, ap}
 use mathlib.Core.Bool.{Bool, not, _&&_}
 use lib.Dec.{ltb}
 use Rattle.laws.proofs.TestLaws.{and-right, and-true}

@@ -1,13 +1,11 @@
 -- `extremes::members::run` meets its contract.
 use Prim.Native.Nat.{ℕ, _-_, _≤_, _<_}
-use mathlib.Core.Path.{_≡_, sym, _∙_, ap, subst}
-use mathlib.Core.Bool.{Bool, true, false, not, _&&_}
+use mathlib.Core.Path.{sym, _∙_}
 use native.Mathlib.Omega.{arith}
 use borrow.Author.Needs.{needs}
 use borrow.Author.Count.{below-more}
-use lib.Dec.{T, ltb}
+use lib.Dec.{T}
 use Rattle.rules.specs.Cell.{present, has}
-use Rattle.laws.proofs.LoopLaws.{card-read}
 use Rattle.extremes.proofs.MemberLaws.{kept-inside}
 use Rattle.extremes.proofs.members.run.Statement.{statement}
 use Rattle.extremes.proofs.members.run.Tie as tie

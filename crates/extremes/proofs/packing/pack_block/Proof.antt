@@ -1,5 +1,4 @@
 -- `extremes::packing::pack_block` meets its contract.
-use Prim.Native.Nat.{_*_}
 use mathlib.Core.Logic.{⊎-elim, inl, inr}
 use native.Mathlib.Omega.{arith}
 use borrow.Author.Needs.{needs}
