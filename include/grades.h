@@ -126,7 +126,7 @@ extern "C" {
 #define GRADES_RUN_STACK_BYTES 5120
 #define GRADES_EACH_STACK_BYTES 6144
 #define GRADES_COMPILE_STACK_BYTES 6144
-#define GRADES_JOIN_STACK_BYTES 12288
+#define GRADES_JOIN_STACK_BYTES 9216
 
 /*
  * Refusals are in two families, each a number of its own plus the refusal's,

@@ -24,10 +24,11 @@ use Rattle.tables.proofs.LineLaws.{best-bound, line-end}
 use Rattle.tables.proofs.OverLaws.{blocks-some}
 use Rattle.tables.proofs.OverLaws.{counted as counts}
 use Rattle.laws.proofs.LoopLaws.{card-read}
-use Rattle.extremes.specs.Grades.{source, Room, Reads}
-use Rattle.extremes.specs.Walk.{Extreme, Class, Swept, Several, Tables, Repeated}
-use Rattle.extremes.proofs.GradesLaws.{unread, reads-on, room-same, fewer}
-use Rattle.extremes.proofs.BlockLaws.{counted}
+use Rattle.rows.specs.Grades.{source, Room, Reads}
+use Rattle.rows.specs.Blocks.{Several, Tables, Repeated}
+use Rattle.extremes.specs.Walk.{Extreme, Class, Swept}
+use Rattle.rows.proofs.GradesLaws.{unread, reads-on, room-same, fewer}
+use Rattle.rows.proofs.BlockLaws.{counted}
 use Rattle.extremes.proofs.AgreeLaws.{low-low, low-high, agree-none, agree-all, agree-low, agree-top, agree-up}
 
 -- the same extreme, of numbers that are told otherwise

@@ -1,4 +1,2 @@
--- What the contracts of the extremes cite.
-pub mod Grades
-pub mod Members
+-- What the contracts of `extremes` cite.
 pub mod Walk

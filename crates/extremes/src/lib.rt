@@ -5,19 +5,18 @@
 // The walk goes down the places. At a member of the set the rows of a table, one for each of its values, become
 // one, which is walked on and then repeated: so each grade is read once and each answer written once, however many
 // members there are.
-pub mod blocks;
-pub mod grades;
-pub mod members;
-pub mod packing;
-
+use places::members;
+use rows::blocks;
+use rows::grades;
 use rules::PLACES;
 ghost use Prim.Native.Nat.{_/_, _<_, _≤_};
 ghost use mathlib.Core.Path.{_≡_};
 ghost use Rattle.rules.specs.Cell.{cells, singleton, over};
 ghost use Rattle.tables.specs.Line.{best};
 ghost use Rattle.tables.specs.Part.{part, Laid, Shaped};
-ghost use Rattle.extremes.specs.Grades.{source, Reads};
-ghost use Rattle.extremes.specs.Walk.{Tables, Members, Swept};
+ghost use Rattle.rows.specs.Grades.{source, Reads};
+ghost use Rattle.rows.specs.Blocks.{Tables};
+ghost use Rattle.extremes.specs.Walk.{Members, Swept};
 
 // The extreme over condition i at every cell.
 pub fn over_one(

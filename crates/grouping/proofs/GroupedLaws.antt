@@ -6,11 +6,11 @@ use Rattle.rules.specs.Bytes.{numbersFrom}
 use Rattle.rules.specs.Cell.{cells, present, singleton}
 use Rattle.rules.specs.Stage.{sets, grow}
 use Rattle.tables.specs.Part.{part}
-use Rattle.grouping.specs.Joining.{joins, joinsAt}
-use Rattle.grouping.specs.Searching.{pairSets, Rising, FirstPair}
+use Rattle.pairs.specs.Joining.{joins, joinsAt}
+use Rattle.pairs.specs.Searching.{pairSets, Rising, FirstPair}
 use Rattle.grouping.specs.Growing.{Held, Space, Started, Grows, setsOf, Grouped}
-use Rattle.grouping.specs.declared.Pair.{Pair}
-use Rattle.grouping.specs.declared.Pair.the-variants.{Nothing as NoPair, Found as APair}
+use Rattle.pairs.specs.declared.Pair.{Pair}
+use Rattle.pairs.specs.declared.Pair.the-variants.{Nothing as NoPair, Found as APair}
 use Rattle.grouping.specs.declared.Sets.{Sets}
 use Rattle.grouping.specs.declared.Found.the-variants.{Nothing, Sets as Some}
 use Rattle.grouping.proofs.KeptLaws.{kept-self, kept-then, kept-part}

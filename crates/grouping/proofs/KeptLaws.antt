@@ -15,7 +15,7 @@ use Rattle.laws.proofs.TestLaws.{by-order}
 use Rattle.tables.specs.Part.{part, Laid, Apart, Two}
 use Rattle.tables.proofs.PartLaws.{part-at, part-same, laid-as, laid-part, laid-apart}
 use Rattle.tables.proofs.LendLaws.{lent, lent-length, lent-at, back, laid-back}
-use Rattle.extremes.specs.Grades.{Reads}
+use Rattle.rows.specs.Grades.{Reads}
 use Rattle.grouping.specs.Growing.{Held, Kept, Space, Started}
 
 -- parts that lie apart, from either

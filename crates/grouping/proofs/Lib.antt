@@ -1,6 +1,4 @@
 -- What several proofs use.
-pub mod JoiningLaws
-pub mod SearchLaws
 pub mod KeptLaws
 pub mod GrowLaws
 pub mod KeepsLaws

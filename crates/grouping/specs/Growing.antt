@@ -8,7 +8,7 @@ use Rattle.rules.specs.Bytes.{at, numbersFrom}
 use Rattle.rules.specs.Cell.{cells, present, insert, singleton, leastOver}
 use Rattle.rules.specs.Stage.{Grouping, none, sets, tryJoin, grouping}
 use Rattle.tables.specs.Part.{part, Laid, Shaped, Two}
-use Rattle.grouping.specs.Joining.{joins, joinsAt, admits}
+use Rattle.pairs.specs.Joining.{joins, joinsAt, admits}
 use Rattle.grouping.specs.declared.Sets.{Sets}
 use Rattle.grouping.specs.declared.Found.{Found}
 use Rattle.grouping.specs.declared.Found.the-variants.{Nothing, Sets as Some}

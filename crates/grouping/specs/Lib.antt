@@ -1,4 +1,2 @@
--- What the contracts of the grouping functions cite.
-pub mod Joining
-pub mod Searching
+-- What the contracts of `grouping` cite.
 pub mod Growing

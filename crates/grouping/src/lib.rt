@@ -1,21 +1,14 @@
 // From the limits of a stage to the sets of a max join. The tables are parts of one buffer. For a
 // min join the caller lends the limits exchanged.
 pub mod growing;
-pub mod joins;
-pub mod search;
 
+use pairs::Pair;
 use rules::PLACES;
 ghost use Prim.Native.Nat.{_+_};
 ghost use mathlib.Core.Path.{_≡_};
 ghost use Rattle.rules.specs.Cell.{cells};
 ghost use Rattle.rules.specs.Stage.{difference, keepsMax};
 ghost use Rattle.grouping.specs.Growing.{Space, Grouped};
-
-// The first two conditions that join.
-pub enum Pair {
-    Nothing,
-    Found(usize, usize),
-}
 
 // The sets of a join.
 pub struct Sets {
@@ -35,7 +28,7 @@ pub fn group(w: &mut [u8], ks: [u8; PLACES], n: usize, low: usize, high: usize) 
     requires { ⌜ (n ≡ cells ks) × Space (now w) ks low (high + n) high ⌝ }
     ensures { λ r. ⌜ Grouped (now (w .entry)) ks low high (high + n) high r (now (w .exit)) ⌝ }
 {
-    let Pair::Found(i, j) = search::first_pair(w, ks, n, low, high) else {
+    let Pair::Found(i, j) = pairs::first_pair(w, ks, n, low, high) else {
         return Found::Nothing;
     };
     growing::start_sets(w, ks, i, j, n, high);

@@ -47,7 +47,7 @@ module _ {shape : Shape} {lower upper : List ℕ} {s t : ℕ} {others ks : List 
   pub fits : Fit n (length lower ∷ length upper ∷ others)
   fits = rw size (fit (cells (placesOf shape)) (length lower ∷ length upper ∷ others) (call .offered .room))
 
-  pub opening : {w : List ℕ} → 8192 ≤ length w → Opening ks (shape .m) n lower upper w
+  pub opening : {w : List ℕ} → 6144 ≤ length w → Opening ks (shape .m) n lower upper w
   opening room =
       let x : Table ks (shape .m) (limitsOf lower upper) = rw (call .places) (table (call .offered)) in
       let e = call .count in

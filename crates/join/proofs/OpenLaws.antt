@@ -28,7 +28,7 @@ grades {ks} e good h f = record { grade = λ c lt. let i : c < cells ks = omega 
 table-good : {ks : List ℕ} {m : ℕ} {l : Limits} → Table ks m l → Good ks m l
 table-good w = record { room = w .ordered; top = w .top }
 
-table-work : {ks : List ℕ} {m n : ℕ} {l : Limits} {w : List ℕ} → Table ks m l → n ≡ cells ks → 8 * n ≤ length w → Work w ks n
+table-work : {ks : List ℕ} {m n : ℕ} {l : Limits} {w : List ℕ} → Table ks m l → n ≡ cells ks → 6 * n ≤ length w → Work w ks n
 table-work x e le = record { shaped = record { some = x .positive; few = x .few-cells }; count = e; room = le }
 
 -- lent limits, and the join under them opened
@@ -74,23 +74,23 @@ module _ {gate : Gate} {ks : List ℕ} {m s t : ℕ} {l : Limits} {n : ℕ} {w :
   some : 1 ≤ m
   some = omega (arith, j .table .grades)
 
-  lows : {v : List ℕ} → Begun gate ks m s t l n v → Below v (2 * n) n m
+  lows : {v : List ℕ} → Begun gate ks m s t l n v → Below v 0 n m
   lows b = grades (j .count) x-good (b .lows) (x-good .room)
 
-  seconds : {v : List ℕ} → Begun gate ks m s t l n v → Below v (5 * n) n m
+  seconds : {v : List ℕ} → Begun gate ks m s t l n v → Below v (3 * n) n m
   seconds b = grades (j .count) x-good (b .seconds) (uB-under ks s t (x .lower) (x .upper))
 
-  pub first-ready : Work w ks n × (1 ≤ m) × Below w (2 * n) n m × Below w (4 * n) n m
+  pub first-ready : Work w ks n × (1 ≤ m) × Below w 0 n m × Below w (2 * n) n m
   first-ready = (work refl, some, lows (j .opened .begun), grades (j .count) x-good (j .opened .firsts) (uA-under ks s t (x .lower) (x .upper)))
 
--- the first block's limits are made, a block g is loaded to part 1 and judged
-module _ {gate : Gate} {ks : List ℕ} {m t n : ℕ} {w w₁ w₂ w₃ : List ℕ} {q : Bool} (first : First gate ks m t n w w₁) (g : List ℕ) (load : Laid w₁ n (part g 0 n) n w₂)
+-- the first block's limits are made, a block g is loaded to part 2 and judged
+module _ {gate : Gate} {ks : List ℕ} {m t n : ℕ} {w w₁ w₂ w₃ : List ℕ} {q : Bool} (first : First gate ks m t n w w₁) (g : List ℕ) (load : Laid w₁ (2 * n) (part g 0 n) n w₂)
     (judged : Judged ks t n g w₂ q w₃) where
   len : length w₃ ≡ length w
   len = judged .kept .len ∙ load .len ∙ first .kept .len
 
-  block : Holds w₃ n g n
-  block = stays-below (judged .kept) (omega arith) (laid-holds (loaded load))
+  block : Holds w₃ (2 * n) g n
+  block = stays-behind (judged .kept) (omega arith) (laid-holds (loaded load))
 
   module _ {s : ℕ} {l : Limits} (j : Joining gate ks m s t l n w) where
     row-nine : q ≡ blockSound ks t (firstLimits gate ks m s t l) g
@@ -103,9 +103,9 @@ module _ {gate : Gate} {ks : List ℕ} {m t n : ℕ} {w w₁ w₂ w₃ : List �
     begun =
         let b = first .begun s l (j .opened .begun) in
         let k = laid-within load in
-        record { lows = stays-below (judged .kept) (omega arith) (stays-behind k (omega arith) (b .lows)); seconds = stays-behind (judged .kept) (omega arith) (stays-behind k (omega arith) (b .seconds)) }
+        record { lows = stays-below (judged .kept) (omega arith) (stays-below k (omega arith) (b .lows)); seconds = stays-behind (judged .kept) (omega arith) (stays-behind k (omega arith) (b .seconds)) }
 
-    pub second-ready : joinExists gate ks m s t l ≡ true → q ≡ true → Work w₃ ks n × (1 ≤ m) × Below w₃ n n m × Below w₃ (2 * n) n m × Below w₃ (5 * n) n m
+    pub second-ready : joinExists gate ks m s t l ≡ true → q ≡ true → Work w₃ ks n × (1 ≤ m) × Below w₃ (2 * n) n m × Below w₃ 0 n m × Below w₃ (3 * n) n m
     second-ready e sound =
         let good = first-good ks m s t gate l (table-good (j .table)) (passes e) in
         let inside = block-inside ks t (firstLimits gate ks m s t l) g (passes (sym row-nine ∙ sound)) in
@@ -117,10 +117,10 @@ module _ {gate : Gate} {ks : List ℕ} {m t n : ℕ} {w w₁ w₂ w₃ : List �
   pub complete : {s : ℕ} {w′ : List ℕ} → q ≡ true → Second gate ks m s n w₃ w′ → Completes gate ks m s t n g w true w′
   complete e h = record { answer = λ l j. sym e ∙ row-nine j; limits = λ l j k. h .limits t l g (begun j) block; len = h .kept .len ∙ len }
 
--- limits from parts 6 and 7 to two buffers
-pub delivered : {n : ℕ} {w low high low′ high′ : List ℕ} → 8 * n ≤ length w → low′ ≡ part w (6 * n) n ++ drop n low → high′ ≡ part w (7 * n) n ++ drop n high → Delivered n w low high low′ high′
+-- limits from parts 4 and 5 to two buffers
+pub delivered : {n : ℕ} {w low high low′ high′ : List ℕ} → 6 * n ≤ length w → low′ ≡ part w (4 * n) n ++ drop n low → high′ ≡ part w (5 * n) n ++ drop n high → Delivered n w low high low′ high′
 delivered {n} {low = low} {high = high} room a b =
     record {
       lower = λ l p e. a ∙ ap (λ (z : List ℕ). z ++ drop n low) (holds-part (p .lows) (omega arith) e);
-      upper = λ l p e. b ∙ ap (λ (z : List ℕ). z ++ drop n high) (holds-part (holds-at {b = 7 * n} (omega arith) (p .highs)) (omega arith) e);
+      upper = λ l p e. b ∙ ap (λ (z : List ℕ). z ++ drop n high) (holds-part (holds-at {b = 5 * n} (omega arith) (p .highs)) (omega arith) e);
     }

@@ -65,7 +65,7 @@ join-means (accepted l) = refl
 join-means (refused q) = refl
 
 -- limits that left a work buffer
-written : (ks : List ℕ) {n : ℕ} → n ≡ cells ks → {w : List ℕ} (l : Limits) → Sized (cells ks) l → Placed w (6 * n) l n → {low high low′ high′ : List ℕ} → Delivered n w low high low′ high′
+written : (ks : List ℕ) {n : ℕ} → n ≡ cells ks → {w : List ℕ} (l : Limits) → Sized (cells ks) l → Placed w (4 * n) l n → {low high low′ high′ : List ℕ} → Delivered n w low high low′ high′
     → (low′ ≡ l .lower ++ drop (cells ks) low) × (high′ ≡ l .upper ++ drop (cells ks) high)
 written ks e l sized p {low} {high} d = (
   d .lower l p (sized .0 ∙ sym e) ∙ ap (λ (i : ℕ). l .lower ++ drop i low) e,

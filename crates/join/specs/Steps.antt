@@ -40,14 +40,14 @@ pub record Opening (ks : List ℕ) (m n : ℕ) (lower upper w : List ℕ) : Type
   pub count : n ≡ cells ks
   pub low : n ≤ length lower
   pub high : n ≤ length upper
-  pub room : 8 * n ≤ length w
+  pub room : 6 * n ≤ length w
 
 module _ (gate : Gate) (ks : List ℕ) (m s t : ℕ) where
   -- the join under the limits l is open in a work buffer
   pub record Joining (l : Limits) (n : ℕ) (w : List ℕ) : Type 0 where
     pub table : Table ks m l
     pub count : n ≡ cells ks
-    pub room : 8 * n ≤ length w
+    pub room : 6 * n ≤ length w
     pub opened : Opened gate ks m s t l n w
 
   -- it was opened: the answer is row 8's
@@ -66,10 +66,10 @@ module _ (gate : Gate) (ks : List ℕ) (m s t : ℕ) where
   -- whatever join was open: the answer is row 9's, and where g passes, the limits of the second block
   pub record Completes (n : ℕ) (g w : List ℕ) (r : Bool) (w′ : List ℕ) : Type 0 where
     pub answer : (l : Limits) → Joining l n w → r ≡ blockSound ks t (firstLimits gate ks m s t l) g
-    pub limits : (l : Limits) → Joining l n w → r ≡ true → Placed w′ (6 * n) (secondLimits gate ks m s t l g) n
+    pub limits : (l : Limits) → Joining l n w → r ≡ true → Placed w′ (4 * n) (secondLimits gate ks m s t l g) n
     pub len : length w′ ≡ length w
 
--- whatever limits of n cells stand in parts 6 and 7: two buffers hold them, and behind them what they held
+-- whatever limits of n cells stand in parts 4 and 5: two buffers hold them, and behind them what they held
 pub record Delivered (n : ℕ) (w toLower toUpper toLower′ toUpper′ : List ℕ) : Type 0 where
-  pub lower : (l : Limits) → Placed w (6 * n) l n → length (l .lower) ≡ n → toLower′ ≡ l .lower ++ drop n toLower
-  pub upper : (l : Limits) → Placed w (6 * n) l n → length (l .upper) ≡ n → toUpper′ ≡ l .upper ++ drop n toUpper
+  pub lower : (l : Limits) → Placed w (4 * n) l n → length (l .lower) ≡ n → toLower′ ≡ l .lower ++ drop n toLower
+  pub upper : (l : Limits) → Placed w (4 * n) l n → length (l .upper) ≡ n → toUpper′ ≡ l .upper ++ drop n toUpper

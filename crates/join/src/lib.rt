@@ -14,6 +14,9 @@ use tables::limits;
 
 mod sets;
 
+// Six tables of as many cells as a shape can have.
+const WORK: usize = 6144;
+
 // Limits written to the two buffers lent for them, or why not.
 pub enum JoinAnswer {
     Limits,
@@ -75,7 +78,7 @@ fn open(
     join_tables::exists(w, n)
 }
 
-// Of an open join that exists, given a first block g: parts 6 and 7 become the second block's limits.
+// Of an open join that exists, given a first block g: parts 4 and 5 become the second block's limits.
 // Row 9: whether g can be the first block.
 fn second_given(
     w: &mut [u8],
@@ -91,7 +94,7 @@ fn second_given(
     ensures { λ r. ⌜ Completes gate ks m s t n (now (g .entry)) (now (w .entry)) r (now (w .exit)) ⌝ }
 {
     join_tables::first_limits(w, gate, ks, m, t, n);
-    fill::load(w, g, n, n);
+    fill::load(w, g, 2 * n, n);
     if !join_tables::block_sound(w, g, ks, t, n) {
         return false;
     }
@@ -99,13 +102,13 @@ fn second_given(
     true
 }
 
-// The limits in parts 6 and 7, to the two buffers lent for them.
+// The limits in parts 4 and 5, to the two buffers lent for them.
 fn deliver(w: &[u8], n: usize, out_lower: &mut [u8], out_upper: &mut [u8])
-    requires { ⌜ (8 * n ≤ length (now w)) × (n ≤ length (now «out_lower»)) × (n ≤ length (now «out_upper»)) ⌝ }
+    requires { ⌜ (6 * n ≤ length (now w)) × (n ≤ length (now «out_lower»)) × (n ≤ length (now «out_upper»)) ⌝ }
     ensures { λ _. ⌜ Delivered n (now (w .entry)) (now («out_lower» .entry)) (now («out_upper» .entry)) (now («out_lower» .exit)) (now («out_upper» .exit)) ⌝ }
 {
-    fill::unload(w, 6 * n, out_lower, n);
-    fill::unload(w, 7 * n, out_upper, n);
+    fill::unload(w, 4 * n, out_lower, n);
+    fill::unload(w, 5 * n, out_upper, n);
 }
 
 // The limits of a join's first block.
@@ -128,7 +131,7 @@ pub fn join_first(
     match judge(shape, ks, n, lower, upper, shortest, s, t) {
         JoinAnswer::Refused(refusal) => JoinAnswer::Refused(refusal),
         JoinAnswer::Limits => {
-            let mut work = [0u8; 8192];
+            let mut work = [0u8; WORK];
             if !open(&mut work, lower, upper, gate, ks, shape.m, s, t, n) {
                 return JoinAnswer::Refused(Refusal::NoJoin);
             }
@@ -160,7 +163,7 @@ pub fn join_second(
     match judge(shape, ks, n, lower, upper, shortest, s, t) {
         JoinAnswer::Refused(refusal) => JoinAnswer::Refused(refusal),
         JoinAnswer::Limits => {
-            let mut work = [0u8; 8192];
+            let mut work = [0u8; WORK];
             if !open(&mut work, lower, upper, gate, ks, shape.m, s, t, n) {
                 return JoinAnswer::Refused(Refusal::NoJoin);
             }

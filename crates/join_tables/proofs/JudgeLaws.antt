@@ -14,7 +14,7 @@ use Rattle.tables.specs.Part.{part, Laid, Apart}
 use Rattle.tables.proofs.PartLaws.{part-at}
 use Rattle.join_tables.specs.Parts.{Holds, Placed, Within, Work, Blinded, Judged}
 use Rattle.join_tables.proofs.HoldLaws.{holds-at, laid-holds, laid-within, within-then, stays-below, stays-behind}
-use Rattle.join_tables.proofs.StepLaws.{before}
+use Rattle.join_tables.proofs.StepLaws.{behind}
 use Rattle.join_tables.proofs.BlindLaws.{own-greatest, block-by}
 
 -- a test of two tables that stand in a buffer
@@ -31,31 +31,31 @@ blinded ks set {g} r e p h l q =
       kept = laid-within l;
     }
 
-module _ (t : ℕ) {g w ks : List ℕ} {n : ℕ} (work : Work w ks n) (h : Holds w n g n) where
-  same : Within w (3 * n) (4 * n) w
+module _ (t : ℕ) {g w ks : List ℕ} {n : ℕ} (work : Work w ks n) (h : Holds w (2 * n) g n) where
+  same : Within w n (2 * n) w
   same = record { len = refl; before = λ j h. refl; after = λ j h. refl }
 
-  pub blind-room : Apart w n n (3 * n) n
-  blind-room = let r = work .room in before n n (3 * n) n (omega arith) (omega arith)
+  pub blind-room : Apart w (2 * n) n n n
+  blind-room = let r = work .room in behind (2 * n) n n n (omega arith) (omega arith)
 
   -- the two tests of the limits
-  module _ (l : Limits) (p : Placed w (6 * n) l n) where
-    low-is : {a : Bool} → a ≡ all n (λ c. leb (at (part w (6 * n) n) c) (at (part w n n) c)) → all (cells ks) (λ c. leb (at (l .lower) c) (at g c)) ≡ a
+  module _ (l : Limits) (p : Placed w (4 * n) l n) where
+    low-is : {a : Bool} → a ≡ all n (λ c. leb (at (part w (4 * n) n) c) (at (part w (2 * n) n) c)) → all (cells ks) (λ c. leb (at (l .lower) c) (at g c)) ≡ a
     low-is e = sym (e ∙ fits-is ks (work .count) (p .lows) h)
 
-    high-is : {a : Bool} → a ≡ all n (λ c. leb (at (part w n n) c) (at (part w (7 * n) n) c)) → all (cells ks) (λ c. leb (at g c) (at (l .upper) c)) ≡ a
-    high-is e = sym (e ∙ fits-is ks (work .count) h (holds-at {b = 7 * n} (omega arith) (p .highs)))
+    high-is : {a : Bool} → a ≡ all n (λ c. leb (at (part w (2 * n) n) c) (at (part w (5 * n) n) c)) → all (cells ks) (λ c. leb (at g c) (at (l .upper) c)) ≡ a
+    high-is e = sym (e ∙ fits-is ks (work .count) h (holds-at {b = 5 * n} (omega arith) (p .highs)))
 
-  pub below-limits : false ≡ all n (λ c. leb (at (part w (6 * n) n) c) (at (part w n n) c)) → Judged ks t n g w false w
+  pub below-limits : false ≡ all n (λ c. leb (at (part w (4 * n) n) c) (at (part w (2 * n) n) c)) → Judged ks t n g w false w
   below-limits e = record { answer = λ l p. sym (block-by ks t l g false _ _ (low-is l p e) refl refl); kept = same }
 
-  module _ (e : true ≡ all n (λ c. leb (at (part w (6 * n) n) c) (at (part w n n) c))) where
-    pub above-limits : false ≡ all n (λ c. leb (at (part w n n) c) (at (part w (7 * n) n) c)) → Judged ks t n g w false w
+  module _ (e : true ≡ all n (λ c. leb (at (part w (4 * n) n) c) (at (part w (2 * n) n) c))) where
+    pub above-limits : false ≡ all n (λ c. leb (at (part w (2 * n) n) c) (at (part w (5 * n) n) c)) → Judged ks t n g w false w
     above-limits k = record { answer = λ l p. sym (block-by ks t l g true false _ (low-is l p e) (high-is l p k) refl); kept = same }
 
-    pub judged : {w′ : List ℕ} {r : Bool} → true ≡ all n (λ c. leb (at (part w n n) c) (at (part w (7 * n) n) c)) → Blinded ks t (3 * n) n g w r w′ → Judged ks t n g w r w′
+    pub judged : {w′ : List ℕ} {r : Bool} → true ≡ all n (λ c. leb (at (part w (2 * n) n) c) (at (part w (5 * n) n) c)) → Blinded ks t n n g w r w′ → Judged ks t n g w r w′
     judged {w′} {r} k b =
         record {
           answer = λ l p. sym (block-by ks t l g true true r (low-is l p e) (high-is l p k) (sym (b .answer)));
-          kept = within-then (3 * n) (4 * n) same (b .kept) (omega arith) (omega arith) (omega arith) (omega arith);
+          kept = within-then n (2 * n) same (b .kept) (omega arith) (omega arith) (omega arith) (omega arith);
         }

@@ -68,7 +68,7 @@ grades-both {w} {m} a b n e p q =
 -- the join under lent limits: both blocks' upper limits are made
 pub opened : (gate : Gate) (ks : List ℕ) (m s t : ℕ) (l : Limits) {n : ℕ} {w v₁ v₂ w′ : List ℕ}
     → let x = exchangeFor gate ks m l in
-    Laid w (2 * n) (x .lower) n v₁ → Laid v₁ (4 * n) (leastOver ks t (x .upper)) n v₂ → Laid v₂ (5 * n) (leastOver ks s (x .upper)) n w′ → Opened gate ks m s t l n w′
+    Laid w 0 (x .lower) n v₁ → Laid v₁ (2 * n) (leastOver ks t (x .upper)) n v₂ → Laid v₂ (3 * n) (leastOver ks s (x .upper)) n w′ → Opened gate ks m s t l n w′
 opened gate ks m s t l low a b =
     record {
       begun = record { lows = stays-below (laid-within b) (omega arith) (stays-below (laid-within a) (omega arith) (laid-holds low)); seconds = laid-holds b };
@@ -76,7 +76,7 @@ opened gate ks m s t l low a b =
     }
 
 -- whether the join exists
-pub existing : {w : List ℕ} {n : ℕ} (r : Bool) → r ≡ all n (λ c. leb (at (part w (2 * n) n) c) (max (at (part w (4 * n) n) c) (at (part w (5 * n) n) c))) → Existing n w r
+pub existing : {w : List ℕ} {n : ℕ} (r : Bool) → r ≡ all n (λ c. leb (at (part w 0 n) c) (max (at (part w (2 * n) n) c) (at (part w (3 * n) n) c))) → Existing n w r
 existing {w} {n} r e =
     record {
       answer = λ gate ks m s t l size o.
@@ -84,40 +84,40 @@ existing {w} {n} r e =
           e
           ∙ all-same n _ _
           (λ c h.
-          ap₂ leb (part-at w (2 * n) n c h ∙ o .begun .lows .here c h)
-          (ap₂ max (part-at w (4 * n) n c h ∙ o .firsts .here c h) (part-at w (5 * n) n c h ∙ o .begun .seconds .here c h)))
+          ap₂ leb (part-at w 0 n c h ∙ o .begun .lows .here c h)
+          (ap₂ max (part-at w (2 * n) n c h ∙ o .firsts .here c h) (part-at w (3 * n) n c h ∙ o .begun .seconds .here c h)))
           ∙ ap (λ (i : ℕ). all i (λ c. leb (at (x .lower) c) (max (at (uA ks s t (x .lower) (x .upper)) c) (at (uB ks s t (x .lower) (x .upper)) c)))) size;
     }
 
 module _ (gate : Gate) {w ks : List ℕ} {m n : ℕ} (work : Work w ks n) (some : 1 ≤ m) where
-  room : 8 * n ≤ length w
+  room : 6 * n ≤ length w
   room = work .room
 
   -- the first block's limits
-  pub first-low : Apart w (2 * n) n (3 * n) n
-  first-low = let r = room in before (2 * n) n (3 * n) n (omega arith) (omega arith)
+  pub first-low : Apart w 0 n n n
+  first-low = let r = room in before 0 n n n (omega arith) (omega arith)
 
-  pub first-high : Apart w (5 * n) n (3 * n) n
-  first-high = let r = room in behind (5 * n) n (3 * n) n (omega arith) (omega arith)
+  pub first-high : Apart w (3 * n) n n n
+  first-high = let r = room in behind (3 * n) n n n (omega arith) (omega arith)
 
-  module _ (t : ℕ) {v : List ℕ} (a : Laid w (3 * n) (greatestOver ks t (tabulate n (λ c. above (at (part w (2 * n) n) c) (at (part w (5 * n) n) c)))) n v) where
-    pub first-exchange : Below w (2 * n) n m → Below w (4 * n) n m → Exchanging v m (3 * n) (6 * n) n
+  module _ (t : ℕ) {v : List ℕ} (a : Laid w n (greatestOver ks t (tabulate n (λ c. above (at (part w 0 n) c) (at (part w (3 * n) n) c)))) n v) where
+    pub first-exchange : Below w 0 n m → Below w (2 * n) n m → Exchanging v m n (4 * n) n
     first-exchange p q =
         let r = room in
         let k = a .len in
         record {
           some = some;
-          parts = before (3 * n) (2 * n) (6 * n) (2 * n) (omega arith) (omega arith);
-          grades = grades-both (3 * n) (4 * n) n (omega arith) (above-below ks t (5 * n) (work .count) a p) (grades-behind (laid-within a) (omega arith) q);
+          parts = before n (2 * n) (4 * n) (2 * n) (omega arith) (omega arith);
+          grades = grades-both n (2 * n) n (omega arith) (above-below ks t (3 * n) (work .count) a p) (grades-behind (laid-within a) (omega arith) q);
         }
 
-    pub first : {w′ : List ℕ} → Exchanged gate v m (3 * n) (6 * n) n w′ → First gate ks m t n w w′
+    pub first : {w′ : List ℕ} → Exchanged gate v m n (4 * n) n w′ → First gate ks m t n w w′
     first x =
         record {
           limits = λ s l o.
               x .limits ks _ (work .count)
               (record {
-                lows = above-holds ks t (5 * n) (work .count) a (o .begun .lows) (o .begun .seconds);
+                lows = above-holds ks t (3 * n) (work .count) a (o .begun .lows) (o .begun .seconds);
                 highs = holds-at (omega arith) (stays-behind (laid-within a) (omega arith) (o .firsts));
               });
           begun = λ s l b.
@@ -125,44 +125,44 @@ module _ (gate : Gate) {w ks : List ℕ} {m n : ℕ} (work : Work w ks n) (some 
                 lows = stays-below (x .kept) (omega arith) (stays-below (laid-within a) (omega arith) (b .lows));
                 seconds = stays-below (x .kept) (omega arith) (stays-behind (laid-within a) (omega arith) (b .seconds));
               };
-          kept = within-then (3 * n) (8 * n) (laid-within a) (x .kept) (omega arith) (omega arith) (omega arith) (omega arith);
+          kept = within-then n (6 * n) (laid-within a) (x .kept) (omega arith) (omega arith) (omega arith) (omega arith);
         }
 
   -- the second block's
-  pub second-block : Below w n n m → (1 ≤ m) × Apart w n n (3 * n) n × Below w n n m
-  second-block b = let r = room in (some, before n n (3 * n) n (omega arith) (omega arith), b)
+  pub second-block : Below w (2 * n) n m → (1 ≤ m) × Apart w (2 * n) n n n × Below w (2 * n) n m
+  second-block b = let r = room in (some, behind (2 * n) n n n (omega arith) (omega arith), b)
 
-  module _ {v₁ : List ℕ} (x : Laid w (3 * n) (turned gate n m (part w n n)) n v₁) where
-    pub second-low : Apart v₁ (2 * n) n (4 * n) n
-    second-low = let r = room in let k = x .len in before (2 * n) n (4 * n) n (omega arith) (omega arith)
+  module _ {v₁ : List ℕ} (x : Laid w n (turned gate n m (part w (2 * n) n)) n v₁) where
+    pub second-low : Apart v₁ 0 n (2 * n) n
+    second-low = let r = room in let k = x .len in before 0 n (2 * n) n (omega arith) (omega arith)
 
-    pub second-high : Apart v₁ (3 * n) n (4 * n) n
-    second-high = let r = room in let k = x .len in before (3 * n) n (4 * n) n (omega arith) (omega arith)
+    pub second-high : Apart v₁ n n (2 * n) n
+    second-high = let r = room in let k = x .len in before n n (2 * n) n (omega arith) (omega arith)
 
-    module _ (s : ℕ) {v₂ : List ℕ} (a : Laid v₁ (4 * n) (greatestOver ks s (tabulate n (λ c. above (at (part v₁ (2 * n) n) c) (at (part v₁ (3 * n) n) c)))) n v₂) where
-      pub second-exchange : Below w (2 * n) n m → Below w (5 * n) n m → Exchanging v₂ m (4 * n) (6 * n) n
+    module _ (s : ℕ) {v₂ : List ℕ} (a : Laid v₁ (2 * n) (greatestOver ks s (tabulate n (λ c. above (at (part v₁ 0 n) c) (at (part v₁ n n) c)))) n v₂) where
+      pub second-exchange : Below w 0 n m → Below w (3 * n) n m → Exchanging v₂ m (2 * n) (4 * n) n
       second-exchange p q =
           let r = room in
           let i = x .len in
           let k = a .len in
           record {
             some = some;
-            parts = before (4 * n) (2 * n) (6 * n) (2 * n) (omega arith) (omega arith);
+            parts = before (2 * n) (2 * n) (4 * n) (2 * n) (omega arith) (omega arith);
             grades =
-                grades-both (4 * n) (5 * n) n (omega arith) (above-below ks s (3 * n) (work .count) a (grades-below (laid-within x) (omega arith) p))
+                grades-both (2 * n) (3 * n) n (omega arith) (above-below ks s n (work .count) a (grades-below (laid-within x) (omega arith) p))
                 (grades-behind (laid-within a) (omega arith) (grades-behind (laid-within x) (omega arith) q));
           }
 
-      pub second : {w′ : List ℕ} → Exchanged gate v₂ m (4 * n) (6 * n) n w′ → Second gate ks m s n w w′
+      pub second : {w′ : List ℕ} → Exchanged gate v₂ m (2 * n) (4 * n) n w′ → Second gate ks m s n w w′
       second y =
           record {
             limits = λ t l g b h.
                 y .limits ks _ (work .count)
                 (record {
-                  lows = above-holds ks s (3 * n) (work .count) a (stays-below (laid-within x) (omega arith) (b .lows)) (turned-holds gate ks m (work .count) x h);
+                  lows = above-holds ks s n (work .count) a (stays-below (laid-within x) (omega arith) (b .lows)) (turned-holds gate ks m (work .count) x h);
                   highs = holds-at (omega arith) (stays-behind (laid-within a) (omega arith) (stays-behind (laid-within x) (omega arith) (b .seconds)));
                 });
             kept =
-                within-then (3 * n) (8 * n) (within-then (3 * n) (5 * n) (laid-within x) (laid-within a) (omega arith) (omega arith) (omega arith) (omega arith)) (y .kept) (omega arith) (omega arith) (omega arith)
+                within-then n (6 * n) (within-then n (3 * n) (laid-within x) (laid-within a) (omega arith) (omega arith) (omega arith) (omega arith)) (y .kept) (omega arith) (omega arith) (omega arith)
                 (omega arith);
           }

@@ -20,9 +20,9 @@ use Rattle.tables.specs.Part.{part, Laid, Two, Shaped}
 use Rattle.tables.specs.Line.{best}
 use Rattle.tables.proofs.PartLaws.{part-at, laid-then, laid-as}
 use Rattle.tables.proofs.LineLaws.{best-bound}
-use Rattle.tables.proofs.LendLaws.{lent, lent-part, lent-length, back, laid-back}
-use Rattle.extremes.specs.Grades.{source, Reads}
-use Rattle.extremes.proofs.GradesLaws.{there}
+use Rattle.tables.proofs.LendLaws.{lent, lent-part, lent-length, front, front-length, front-at, back, laid-back}
+use Rattle.rows.specs.Grades.{source, Reads}
+use Rattle.rows.proofs.GradesLaws.{there, from-lent}
 use Rattle.join_tables.specs.Parts.{side, turned, Below, Holds, Placed, Within, Exchanging, Exchanged}
 use Rattle.join_tables.proofs.HoldLaws.{laid-within, within-then, stays-below}
 
@@ -111,7 +111,7 @@ pub over-laid : (greatest : Bool) (ks : List ℕ) (set : ℕ) {n a : ℕ} {w t v
 over-laid greatest ks set {n} {a} {w} {t} {v} {w′} e l k =
     laid-as (over-same (best-bound greatest) ks set (part v a n) t (λ c h. part-at v a n c (omega arith) ∙ l .here c (omega arith))) (laid-then l k)
 
--- one that is made in a part which is lent on: of that part, or of a table x that was lent
+-- one that is made in a part which is lent on: of that part, or of a table x whose cells are lent
 module _ {ks : List ℕ} (shaped : Shaped ks) {n : ℕ} (e : n ≡ cells ks) (a : ℕ) (w : List ℕ) (room : a + n ≤ length w) where
   some : 1 ≤ n
   some = omega (arith, cells-pos ks (shaped .some))
@@ -119,19 +119,18 @@ module _ {ks : List ℕ} (shaped : Shaped ks) {n : ℕ} (e : n ≡ cells ks) (a 
   pub reads-part : Reads [] (lent a n w) 0 0 n
   reads-part = let k = lent-length a n w room in record { src = omega arith; dst = omega arith; aside = inl refl }
 
-  pub reads-lent : (x : List ℕ) → n ≤ length x → Reads x (lent a n w) 0 0 n
-  reads-lent [] le = absurd (omega (arith, some))
-  reads-lent (g ∷ gs) le = let k = lent-length a n w room in record { src = omega arith; dst = omega arith; aside = tt }
+  pub reads-lent : (x : List ℕ) → n ≤ length x → Reads (front n x) (lent a n w) 0 0 n
+  reads-lent x le = let k = front-length n x le in from-lent (front n x) (lent a n w) (omega (arith, some)) (omega arith) (omega (arith, lent-length a n w room))
 
   module _ (greatest : Bool) (set : ℕ) {v : List ℕ} where
-    over-back : {u t : List ℕ} → u ≡ t → Laid (lent a n w) 0 (over (best greatest) ks set (part u 0 n)) n v → Laid w a (over (best greatest) ks set t) n (back a n w v)
-    over-back {u} {t} q l =
+    over-back : (u t : List ℕ) → ((c : ℕ) → c < n → at u c ≡ at t c) → Laid (lent a n w) 0 (over (best greatest) ks set (part u 0 n)) n v → Laid w a (over (best greatest) ks set t) n (back a n w v)
+    over-back u t q l =
         let k = laid-back a n room (omega arith) l in
-        laid-as (over-same (best-bound greatest) ks set (part u 0 n) t (λ c h. part-at u 0 n c (omega arith) ∙ ap (at u) (zero-add c) ∙ ap (λ (y : List ℕ). at y c) q)) (rw (add-zero a) at k)
+        laid-as (over-same (best-bound greatest) ks set (part u 0 n) t (λ c h. part-at u 0 n c (omega arith) ∙ ap (at u) (zero-add c) ∙ q c (omega arith))) (rw (add-zero a) at k)
 
     pub over-part : Laid (lent a n w) 0 (over (best greatest) ks set (part (lent a n w) 0 n)) n v → Laid w a (over (best greatest) ks set (part w a n)) n (back a n w v)
-    over-part = over-back (lent-part a n w)
+    over-part = over-back (lent a n w) (part w a n) (λ c h. ap (λ (y : List ℕ). at y c) (lent-part a n w))
 
-    pub over-lent : (x : List ℕ) → n ≤ length x → Laid (lent a n w) 0 (over (best greatest) ks set (part (source x (lent a n w)) 0 n)) n v
+    pub over-lent : (x : List ℕ) → n ≤ length x → Laid (lent a n w) 0 (over (best greatest) ks set (part (source (front n x) (lent a n w)) 0 n)) n v
         → Laid w a (over (best greatest) ks set x) n (back a n w v)
-    over-lent x le = over-back (there x (lent a n w) (λ q. omega (arith, some)))
+    over-lent x le = over-back (source (front n x) (lent a n w)) x (λ c h. ap (λ (y : List ℕ). at y c) (there (front n x) (lent a n w) (λ q. omega (arith, some, front-length n x le))) ∙ front-at n x c h)

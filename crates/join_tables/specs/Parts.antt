@@ -56,7 +56,7 @@ pub record Exchanged (gate : Gate) (w : List ℕ) (m from to n : ℕ) (w′ : Li
 pub record Work (w : List ℕ) (ks : List ℕ) (n : ℕ) : Type 0 where
   pub shaped : Shaped ks
   pub count : n ≡ cells ks
-  pub room : 8 * n ≤ length w
+  pub room : 6 * n ≤ length w
 
 -- limits that are lent: n grades each
 pub record Lent (lower upper : List ℕ) (m n : ℕ) : Type 0 where
@@ -69,12 +69,12 @@ pub record Lent (lower upper : List ℕ) (m n : ℕ) : Type 0 where
 -- the join by a gate under the limits l: what its two blocks are made from
 module _ (gate : Gate) (ks : List ℕ) (m s t : ℕ) (l : Limits) (n : ℕ) where
   pub record Begun (w : List ℕ) : Type 0 where
-    pub lows : Holds w (2 * n) (exchangeFor gate ks m l .lower) n
-    pub seconds : Holds w (5 * n) (uB ks s t (exchangeFor gate ks m l .lower) (exchangeFor gate ks m l .upper)) n
+    pub lows : Holds w 0 (exchangeFor gate ks m l .lower) n
+    pub seconds : Holds w (3 * n) (uB ks s t (exchangeFor gate ks m l .lower) (exchangeFor gate ks m l .upper)) n
 
   pub record Opened (w : List ℕ) : Type 0 where
     pub begun : Begun w
-    pub firsts : Holds w (4 * n) (uA ks s t (exchangeFor gate ks m l .lower) (exchangeFor gate ks m l .upper)) n
+    pub firsts : Holds w (2 * n) (uA ks s t (exchangeFor gate ks m l .lower) (exchangeFor gate ks m l .upper)) n
 
 -- whatever join is open: the answer is whether it exists
 pub record Existing (n : ℕ) (w : List ℕ) (r : Bool) : Type 0 where
@@ -82,21 +82,21 @@ pub record Existing (n : ℕ) (w : List ℕ) (r : Bool) : Type 0 where
 
 -- whatever join was opened: the limits of its first block
 pub record First (gate : Gate) (ks : List ℕ) (m t n : ℕ) (w w′ : List ℕ) : Type 0 where
-  pub limits : (s : ℕ) (l : Limits) → Opened gate ks m s t l n w → Placed w′ (6 * n) (firstLimits gate ks m s t l) n
+  pub limits : (s : ℕ) (l : Limits) → Opened gate ks m s t l n w → Placed w′ (4 * n) (firstLimits gate ks m s t l) n
   pub begun : (s : ℕ) (l : Limits) → Begun gate ks m s t l n w → Begun gate ks m s t l n w′
-  pub kept : Within w (3 * n) (8 * n) w′
+  pub kept : Within w n (6 * n) w′
 
--- whatever join was begun, and whatever first block stood in part 1: the limits of the second
+-- whatever join was begun, and whatever first block stood in part 2: the limits of the second
 pub record Second (gate : Gate) (ks : List ℕ) (m s n : ℕ) (w w′ : List ℕ) : Type 0 where
-  pub limits : (t : ℕ) (l : Limits) (g : List ℕ) → Begun gate ks m s t l n w → Holds w n g n → Placed w′ (6 * n) (secondLimits gate ks m s t l g) n
-  pub kept : Within w (3 * n) (8 * n) w′
+  pub limits : (t : ℕ) (l : Limits) (g : List ℕ) → Begun gate ks m s t l n w → Holds w (2 * n) g n → Placed w′ (4 * n) (secondLimits gate ks m s t l g) n
+  pub kept : Within w n (6 * n) w′
 
 -- the answer is whether the table g is blind to the set
 pub record Blinded (ks : List ℕ) (set to n : ℕ) (g w : List ℕ) (r : Bool) (w′ : List ℕ) : Type 0 where
   pub answer : r ≡ blindTest ks set g
   pub kept : Within w to (to + n) w′
 
--- whatever limits stood in parts 6 and 7: the answer is row 9's for the block g
+-- whatever limits stood in parts 4 and 5: the answer is row 9's for the block g
 pub record Judged (ks : List ℕ) (t n : ℕ) (g w : List ℕ) (r : Bool) (w′ : List ℕ) : Type 0 where
-  pub answer : (l : Limits) → Placed w (6 * n) l n → r ≡ blockSound ks t l g
-  pub kept : Within w (3 * n) (4 * n) w′
+  pub answer : (l : Limits) → Placed w (4 * n) l n → r ≡ blockSound ks t l g
+  pub kept : Within w n (2 * n) w′

@@ -70,7 +70,7 @@ fn over_lent(
     requires { ⌜ Shaped ks × (n ≡ cells ks) × (n ≤ length (now table)) × (to + n ≤ length (now w)) ⌝ }
     ensures { λ _. ⌜ Laid (now (w .entry)) to (over (best greatest) ks set (now (table .entry))) n (now (w .exit)) ⌝ }
 {
-    extremes::over_set(table, &mut w[to..to + n], greatest, ks, set, n, 0, 0);
+    extremes::over_set(&table[0..n], &mut w[to..to + n], greatest, ks, set, n, 0, 0);
 }
 
 // The greatest, over a set, of the low grades that are above the high table's.
@@ -90,14 +90,14 @@ pub fn greatest_above(
     over_part(w, true, ks, set, to, n);
 }
 
-// Of lent limits, the lower ones as the max join wants them, at part 2.
+// Of lent limits, the lower ones as the max join wants them, at part 0.
 fn load_lower(w: &mut [u8], lower: &[u8], upper: &[u8], gate: Gate, m: u8, n: usize)
-    requires { ⌜ Lent (now lower) (now upper) m n × (3 * n ≤ length (now w)) ⌝ }
-    ensures { λ _. ⌜ ((ks : List ℕ) → n ≡ cells ks → Laid (now (w .entry)) (2 * n) (exchangeFor gate ks m (limitsOf (now (lower .entry)) (now (upper .entry))) .lower) n (now (w .exit))) ⌝ }
+    requires { ⌜ Lent (now lower) (now upper) m n × (n ≤ length (now w)) ⌝ }
+    ensures { λ _. ⌜ ((ks : List ℕ) → n ≡ cells ks → Laid (now (w .entry)) 0 (exchangeFor gate ks m (limitsOf (now (lower .entry)) (now (upper .entry))) .lower) n (now (w .exit))) ⌝ }
 {
     match gate {
-        Gate::Max => fill::load(w, lower, 2 * n, n),
-        Gate::Min => fill::load_complement(w, upper, m - 1, 2 * n, n),
+        Gate::Max => fill::load(w, lower, 0, n),
+        Gate::Min => fill::load_complement(w, upper, m - 1, 0, n),
     }
 }
 
@@ -125,7 +125,7 @@ fn least_upper(
     }
 }
 
-// Opens the join under lent limits: part 2 becomes the lower ones, part 4 the first block's upper limits, part 5
+// Opens the join under lent limits: part 0 becomes the lower ones, part 2 the first block's upper limits, part 3
 // the second's.
 pub fn open_limits(
     w: &mut [u8],
@@ -142,36 +142,36 @@ pub fn open_limits(
     ensures { λ _. ⌜ Opened gate ks m s t (limitsOf (now (lower .entry)) (now (upper .entry))) n (now (w .exit)) ⌝ }
 {
     load_lower(w, lower, upper, gate, m, n);
-    least_upper(w, lower, upper, gate, ks, m, t, 4 * n, n);
-    least_upper(w, lower, upper, gate, ks, m, s, 5 * n, n);
+    least_upper(w, lower, upper, gate, ks, m, t, 2 * n, n);
+    least_upper(w, lower, upper, gate, ks, m, s, 3 * n, n);
 }
 
 // Whether an open join exists. It stops at the first cell that refuses.
 pub fn exists(w: &[u8], n: usize) -> bool
-    requires { ⌜ 8 * n ≤ length (now w) ⌝ }
+    requires { ⌜ 6 * n ≤ length (now w) ⌝ }
     ensures { λ r. ⌜ Existing n (now (w .entry)) r ⌝ }
 {
-    tests::within_either(w, 2 * n, 4 * n, 5 * n, n)
+    tests::within_either(w, 0, 2 * n, 3 * n, n)
 }
 
-// Of an open join: parts 6 and 7 become the first block's limits, part 3 is lost.
+// Of an open join: parts 4 and 5 become the first block's limits, part 1 is lost.
 pub fn first_limits(w: &mut [u8], gate: Gate, ks: [u8; PLACES], m: u8, t: u8, n: usize)
-    requires { ⌜ Work (now w) ks n × (1 ≤ m) × Below (now w) (2 * n) n m × Below (now w) (4 * n) n m ⌝ }
+    requires { ⌜ Work (now w) ks n × (1 ≤ m) × Below (now w) 0 n m × Below (now w) (2 * n) n m ⌝ }
     ensures { λ _. ⌜ First gate ks m t n (now (w .entry)) (now (w .exit)) ⌝ }
 {
-    greatest_above(w, ks, t, 2 * n, 5 * n, 3 * n, n);
-    exchange(w, gate, m, 3 * n, 6 * n, n);
+    greatest_above(w, ks, t, 0, 3 * n, n, n);
+    exchange(w, gate, m, n, 4 * n, n);
 }
 
-// Of an open join, with the first block's grades in part 1: parts 6 and 7 become the second block's
-// limits, parts 3 and 4 are lost.
+// Of an open join, with the first block's grades in part 2: parts 4 and 5 become the second block's
+// limits, parts 1 and 2 are lost.
 pub fn second_limits(w: &mut [u8], gate: Gate, ks: [u8; PLACES], m: u8, s: u8, n: usize)
-    requires { ⌜ Work (now w) ks n × (1 ≤ m) × Below (now w) n n m × Below (now w) (2 * n) n m × Below (now w) (5 * n) n m ⌝ }
+    requires { ⌜ Work (now w) ks n × (1 ≤ m) × Below (now w) (2 * n) n m × Below (now w) 0 n m × Below (now w) (3 * n) n m ⌝ }
     ensures { λ _. ⌜ Second gate ks m s n (now (w .entry)) (now (w .exit)) ⌝ }
 {
-    exchange_block(w, gate, m, n, 3 * n, n);
-    greatest_above(w, ks, s, 2 * n, 3 * n, 4 * n, n);
-    exchange(w, gate, m, 4 * n, 6 * n, n);
+    exchange_block(w, gate, m, 2 * n, n, n);
+    greatest_above(w, ks, s, 0, n, 2 * n, n);
+    exchange(w, gate, m, 2 * n, 4 * n, n);
 }
 
 // Whether a lent table, which stands at `from` too, does not depend on a set: then it is its own greatest
@@ -192,17 +192,17 @@ pub fn blind(
     tests::fits(w, to, from, n)
 }
 
-// Whether the first block g, which part 1 holds too, is within its limits, in parts 6 and 7, and does not depend
-// on t. Part 3 is lost.
+// Whether the first block g, which part 2 holds too, is within its limits, in parts 4 and 5, and does not depend
+// on t. Part 1 is lost.
 pub fn block_sound(w: &mut [u8], g: &[u8], ks: [u8; PLACES], t: u8, n: usize) -> bool
-    requires { ⌜ Work (now w) ks n × (n ≤ length (now g)) × Holds (now w) n (now g) n ⌝ }
+    requires { ⌜ Work (now w) ks n × (n ≤ length (now g)) × Holds (now w) (2 * n) (now g) n ⌝ }
     ensures { λ r. ⌜ Judged ks t n (now (g .entry)) (now (w .entry)) r (now (w .exit)) ⌝ }
 {
-    if !tests::fits(w, 6 * n, n, n) {
+    if !tests::fits(w, 4 * n, 2 * n, n) {
         return false;
     }
-    if !tests::fits(w, n, 7 * n, n) {
+    if !tests::fits(w, 2 * n, 5 * n, n) {
         return false;
     }
-    blind(w, g, ks, t, n, 3 * n, n)
+    blind(w, g, ks, t, 2 * n, n, n)
 }

@@ -1,2 +1,3 @@
 -- What several proofs use.
 pub mod PlaceLaws
+pub mod MemberLaws

@@ -1,2 +1,3 @@
 -- What the contracts of `places` cite.
 pub mod Conditions
+pub mod Members

@@ -21,7 +21,7 @@ use Rattle.join_tables.specs.Parts.{turned, Below}
 use Rattle.join_tables.proofs.HoldLaws.{laid-within}
 use Rattle.join_tables.proofs.TurnLaws.{below-part}
 use Rattle.join_tables.proofs.StepLaws.{before, behind, above-below, grades-below}
-use Rattle.grouping.specs.Joining.{stageAt}
+use Rattle.pairs.specs.Joining.{stageAt}
 use Rattle.stage_drops.specs.Working.{Room}
 use Rattle.stage_blocks.specs.Blocks.{stageOf, Clear, Source, LimitsRoom, LimitsLaid, FirstRoom, FirstLaid, SecondRoom, SecondLaid, JoinedRoom, JoinedLaid}
 use Rattle.stage_drops.proofs.DropLaws.{fewer-shaped}

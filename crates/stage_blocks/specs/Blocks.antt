@@ -12,7 +12,7 @@ use Rattle.rules.specs.Network.{combine}
 use Rattle.rules.specs.Stage.{Stage, firstStage, secondStage}
 use Rattle.tables.specs.Part.{part, Shaped}
 use Rattle.join_tables.specs.Parts.{Below}
-use Rattle.grouping.specs.Joining.{stageAt}
+use Rattle.pairs.specs.Joining.{stageAt}
 use Rattle.stage_drops.specs.Working.{Room, ForSecond, ForBoth}
 
 abbrev pub stageOf : List ℕ → Limits → Stage

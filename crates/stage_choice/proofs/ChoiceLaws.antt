@@ -18,7 +18,7 @@ use Rattle.join_tables.specs.Parts.{Below}
 use Rattle.grouping.specs.declared.Sets.{Sets}
 use Rattle.grouping.specs.declared.Found.{Found}
 use Rattle.grouping.specs.declared.Found.the-variants.{Nothing, Sets as Some}
-use Rattle.grouping.specs.Joining.{joins}
+use Rattle.pairs.specs.Joining.{joins}
 use Rattle.grouping.specs.Growing.{Space, setsOf, foundSets, FoundHeld, Grouped}
 use Rattle.grouping.proofs.KeptLaws.{cells-apart, kept-part}
 use Rattle.stage_choice.specs.declared.Choice.{Choice}

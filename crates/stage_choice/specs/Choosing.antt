@@ -11,7 +11,7 @@ use Rattle.tables.specs.Part.{part}
 use Rattle.join_tables.specs.Parts.{turned, Below}
 use Rattle.grouping.specs.declared.Found.{Found}
 use Rattle.grouping.specs.declared.Found.the-variants.{Sets as Some}
-use Rattle.grouping.specs.Joining.{stageAt}
+use Rattle.pairs.specs.Joining.{stageAt}
 use Rattle.grouping.specs.Growing.{Kept, foundSets}
 use Rattle.stage_choice.specs.declared.Choice.{Choice}
 use Rattle.stage_choice.specs.declared.Choice.the-variants.{Split, Join}

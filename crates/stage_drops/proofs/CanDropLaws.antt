@@ -17,7 +17,7 @@ use Rattle.lines.specs.declared.Along.{Along}
 use Rattle.tables.proofs.PartLaws.{part-at}
 use Rattle.tables.proofs.ScanLaws.{all-passed}
 use Rattle.lines.proofs.AlongLaws.{Walks, walks-least}
-use Rattle.grouping.specs.Joining.{stageAt}
+use Rattle.pairs.specs.Joining.{stageAt}
 use Rattle.stage_drops.specs.Working.{frontStage}
 
 -- the test at every cell, under the rules' definitions

@@ -10,7 +10,7 @@ use Rattle.rules.specs.Join.{uA, uB, exchangeFor}
 use Rattle.rules.specs.Limits.{Limits}
 use Rattle.rules.specs.Stage.{Stage}
 use Rattle.tables.specs.Part.{part, Shaped}
-use Rattle.grouping.specs.Joining.{stageAt}
+use Rattle.pairs.specs.Joining.{stageAt}
 
 -- a buffer for a stage over the places ks: eight parts of c bytes, a byte for each cell
 pub record Room (w ks : List ℕ) (c : ℕ) : Type 0 where

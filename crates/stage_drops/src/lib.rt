@@ -1,7 +1,7 @@
 // Step 1 of a stage: conditions that can be dropped. The stage's limits are at the front of its buffer, the
 // lower ones and right behind them the upper ones, a byte for each cell. A drop leaves them so.
-use extremes::packing;
 use places::sets;
+use rows::packing;
 use rules::PLACES;
 ghost use mathlib.Core.Path.{_≡_};
 ghost use mathlib.Core.Bool.{cond};

@@ -22,7 +22,7 @@ use Rattle.laws.proofs.FunctionLaws.{first-moved, joined}
 use Rattle.tables.specs.Part.{part}
 use Rattle.tables.proofs.PartLaws.{part-at}
 use Rattle.join_tables.specs.Parts.{Below}
-use Rattle.grouping.specs.Joining.{stageAt}
+use Rattle.pairs.specs.Joining.{stageAt}
 use Rattle.stage_drops.specs.Working.{ForSecond}
 use Rattle.stage_blocks.specs.Blocks.{stageOf, FirstRoom, FirstLaid, SecondRoom, SecondLaid, JoinedRoom}
 use Rattle.stage_blocks.proofs.BlockLaws.{there}

@@ -13,7 +13,7 @@ use Rattle.rules.specs.Limits.{Limits}
 use Rattle.rules.specs.Stage.{Stage}
 use Rattle.tables.specs.Part.{part}
 use Rattle.tables.proofs.PartLaws.{part-at, part-length, part-same}
-use Rattle.grouping.specs.Joining.{stageAt}
+use Rattle.pairs.specs.Joining.{stageAt}
 
 abbrev pub rest : ℕ → List ℕ → List ℕ
 rest a w = take (length w - a) (drop a w)

@@ -25,6 +25,16 @@ lent-length a k w h = ap length (lent-part a k w) ∙ part-length w a k h
 pub lent-at : (a k : ℕ) (w : List ℕ) (j : ℕ) → j < k → at (lent a k w) j ≡ at w (a + j)
 lent-at a k w j h = getD-take (a + k - a) (drop a w) j 0 (omega arith) ∙ getD-drop a w j 0
 
+-- the first n bytes, which are lent from 0 up to n
+abbrev pub front : ℕ → List ℕ → List ℕ
+front n w = take (n - 0) (drop 0 w)
+
+pub front-length : (n : ℕ) (w : List ℕ) → n ≤ length w → length (front n w) ≡ n
+front-length n w h = simp length-take (omega arith)
+
+pub front-at : (n : ℕ) (w : List ℕ) (j : ℕ) → j < n → at (front n w) j ≡ at w j
+front-at n w j h = getD-take (n - 0) w j 0 (omega arith)
+
 -- the buffer with v in its place
 abbrev pub back : ℕ → ℕ → List ℕ → List ℕ → List ℕ
 back a k w v = putMid a (a + k - a) w v

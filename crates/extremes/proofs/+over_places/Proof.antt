@@ -8,19 +8,20 @@ use borrow.Fn.PlainCycle.{Measures, is, falls, and}
 use lib.Dec.{T}
 use Rattle.rules.specs.Cell.{has}
 use Rattle.tables.specs.Part.{part}
-use Rattle.extremes.specs.Grades.{source}
-use Rattle.extremes.specs.Walk.{Tables, Swept}
-use Rattle.extremes.proofs.GradesLaws.{source-below}
-use Rattle.extremes.proofs.BlockLaws.{counted, count-few, run-end}
-use Rattle.extremes.proofs.MemberLaws.{above, outside, inside}
+use Rattle.rows.specs.Grades.{source}
+use Rattle.rows.specs.Blocks.{Tables}
+use Rattle.extremes.specs.Walk.{Swept}
+use Rattle.rows.proofs.GradesLaws.{source-below}
+use Rattle.rows.proofs.BlockLaws.{counted, count-few, run-end}
+use Rattle.places.proofs.MemberLaws.{above, outside, inside}
 use Rattle.extremes.proofs.WalkLaws.{runs-swept, along-tables, lines-swept, passed-swept, swept-none, card-is, card-some, step-is, tables-down, row-down, row-room, row-inside, row-in-place, table-more}
 use Rattle.extremes.proofs.over_places.Reads as over-places
 use Rattle.extremes.proofs.over_places.Kinds as over-places-kinds
 use Rattle.extremes.proofs.+over_places.Lts-over_places as over-places-lts
-use Rattle.extremes.proofs.blocks.along.Reads as along-reads
-use Rattle.extremes.proofs.blocks.first_row.Reads as first-row-reads
-use Rattle.extremes.proofs.blocks.repeat_row.Reads as repeat-row-reads
-use Rattle.extremes.proofs.blocks.runs.Reads as runs-reads
+use Rattle.rows.proofs.blocks.along.Reads as along-reads
+use Rattle.rows.proofs.blocks.first_row.Reads as first-row-reads
+use Rattle.rows.proofs.blocks.repeat_row.Reads as repeat-row-reads
+use Rattle.rows.proofs.blocks.runs.Reads as runs-reads
 use Rattle.extremes.proofs.row_of.Reads as row-of-reads
 use Rattle.places.proofs.has_member.Reads as has-member-reads
 use Rattle.extremes.proofs.+over_places.{statement}

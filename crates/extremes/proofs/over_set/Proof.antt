@@ -7,20 +7,20 @@ use lib.Dec.{T}
 use Rattle.rules.specs.Cell.{has}
 use Prim.Native.Nat.{ℕ}
 use mathlib.Core.Path.{sym, subst}
-use Rattle.extremes.specs.Walk.{Tables}
-use Rattle.extremes.proofs.MemberLaws.{lower}
+use Rattle.rows.specs.Blocks.{Tables}
+use Rattle.places.proofs.MemberLaws.{lower}
 use Rattle.extremes.proofs.WalkLaws.{none-swept, swept-over, top-tables, top-over, along-tables, runs-swept, lines-swept}
 use Rattle.extremes.proofs.over_set.Statement.{statement}
 use Rattle.extremes.proofs.over_set.Tie as tie
 use Rattle.extremes.proofs.over_set.Reads as reads
 use Rattle.extremes.proofs.over_set.Lts as lts
 use Rattle.extremes.proofs.over_places.Reads as over-places-reads
-use Rattle.extremes.proofs.blocks.along.Reads as along-reads
-use Rattle.extremes.proofs.blocks.runs.Reads as runs-reads
-use Rattle.extremes.proofs.grades.take_row.Reads as take-row-reads
-use Rattle.extremes.proofs.members.highest.Reads as highest-reads
-use Rattle.extremes.proofs.members.lowest.Reads as lowest-reads
-use Rattle.extremes.proofs.members.run.Reads as run-reads
+use Rattle.rows.proofs.blocks.along.Reads as along-reads
+use Rattle.rows.proofs.blocks.runs.Reads as runs-reads
+use Rattle.rows.proofs.grades.take_row.Reads as take-row-reads
+use Rattle.places.proofs.members.highest.Reads as highest-reads
+use Rattle.places.proofs.members.lowest.Reads as lowest-reads
+use Rattle.places.proofs.members.run.Reads as run-reads
 use Rattle.places.proofs.step.Reads as step-reads
 
 lowest-requires : tie.Need-lowest-requires

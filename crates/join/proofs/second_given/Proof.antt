@@ -9,6 +9,9 @@ use Rattle.join.proofs.second_given.Tie as tie
 first-limits-requires : tie.Need-first-limits-requires
 first-limits-requires c κs = first-ready (c .before .before .before .pre .joining)
 
+mul-load : tie.Need-mul-load
+mul-load c = search needs
+
 load-requires : tie.Need-load-requires
 load-requires c κs = search needs
 
@@ -50,6 +53,7 @@ second-given-spec =
     tie.close
     (tie.spec
     first-limits-requires
+    mul-load
     load-requires
     block-sound-requires
     same-length

@@ -9,6 +9,9 @@ use Rattle.join_tables.proofs.block_sound.Tie as tie
 mul-fits : tie.Need-mul-fits
 mul-fits c = search needs
 
+mul-fits-2 : tie.Need-mul-fits-2
+mul-fits-2 c = search needs
+
 fits-requires : tie.Need-fits-requires
 fits-requires c κs = search needs
 
@@ -18,8 +21,11 @@ same-length c = search needs
 returns : tie.Need-returns
 returns c = let b = c .before .before .before .before .before in below-limits (b .args .t) (b .pre .0) (b .pre .2) (sym (not-true _ (c .if1 .taken)) ∙ c .before .fits2 .ensures)
 
-mul-fits-2 : tie.Need-mul-fits-2
-mul-fits-2 c = search needs
+mul-fits-3 : tie.Need-mul-fits-3
+mul-fits-3 c = search needs
+
+mul-fits-4 : tie.Need-mul-fits-4
+mul-fits-4 c = search needs
 
 fits-requires-2 : tie.Need-fits-requires-2
 fits-requires-2 c κs = search needs
@@ -51,10 +57,12 @@ block-sound-spec =
     tie.close
     (tie.spec
     mul-fits
+    mul-fits-2
     fits-requires
     same-length
     returns
-    mul-fits-2
+    mul-fits-3
+    mul-fits-4
     fits-requires-2
     same-length-2
     returns-2

@@ -10,9 +10,6 @@ mul-within-either c = search needs
 mul-within-either-2 : tie.Need-mul-within-either-2
 mul-within-either-2 c = search needs
 
-mul-within-either-3 : tie.Need-mul-within-either-3
-mul-within-either-3 c = search needs
-
 within-either-requires : tie.Need-within-either-requires
 within-either-requires c κs = search needs
 
@@ -25,6 +22,5 @@ exists-spec =
     (tie.spec
     mul-within-either
     mul-within-either-2
-    mul-within-either-3
     within-either-requires
     returns)

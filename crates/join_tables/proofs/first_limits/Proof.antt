@@ -7,20 +7,11 @@ use Rattle.join_tables.proofs.first_limits.Tie as tie
 mul-greatest-above : tie.Need-mul-greatest-above
 mul-greatest-above c = search needs
 
-mul-greatest-above-2 : tie.Need-mul-greatest-above-2
-mul-greatest-above-2 c = search needs
-
-mul-greatest-above-3 : tie.Need-mul-greatest-above-3
-mul-greatest-above-3 c = search needs
-
 greatest-above-requires : tie.Need-greatest-above-requires
 greatest-above-requires c κs = let b = c .before .before in (b .pre .0 .shaped, b .pre .0 .count, first-low (b .args .gate) (b .pre .0) (b .pre .1), first-high (b .args .gate) (b .pre .0) (b .pre .1))
 
 mul-exchange : tie.Need-mul-exchange
 mul-exchange c = search needs
-
-mul-exchange-2 : tie.Need-mul-exchange-2
-mul-exchange-2 c = search needs
 
 exchange-requires : tie.Need-exchange-requires
 exchange-requires c κs = let b = c .before .before .before .before .before .before in first-exchange (b .args .gate) (b .pre .0) (b .pre .1) (b .args .t) (c .before .before .before .greatest-above .ensures) (b .pre .2) (b .pre .3)
@@ -36,11 +27,8 @@ first-limits-spec =
     tie.close
     (tie.spec
     mul-greatest-above
-    mul-greatest-above-2
-    mul-greatest-above-3
     greatest-above-requires
     mul-exchange
-    mul-exchange-2
     exchange-requires
     same-length
     returns)

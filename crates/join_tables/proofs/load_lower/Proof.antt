@@ -8,9 +8,6 @@ use Rattle.join_tables.proofs.load_lower.Tie as tie
 enum-told : tie.Need-enum-told
 enum-told c = search needs
 
-mul-load : tie.Need-mul-load
-mul-load c = search needs
-
 load-requires : tie.Need-load-requires
 load-requires c κs = search needs
 
@@ -19,9 +16,6 @@ enum-told-2 c = search needs
 
 sub-load-complement : tie.Need-sub-load-complement
 sub-load-complement c = search needs
-
-mul-load-complement : tie.Need-mul-load-complement
-mul-load-complement c = search needs
 
 load-complement-requires : tie.Need-load-complement-requires
 load-complement-requires c κs = search needs
@@ -43,11 +37,9 @@ load-lower-spec =
     tie.close
     (tie.spec
     enum-told
-    mul-load
     load-requires
     enum-told-2
     sub-load-complement
-    mul-load-complement
     load-complement-requires
     same-length
     returns

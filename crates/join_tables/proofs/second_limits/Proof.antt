@@ -13,12 +13,6 @@ exchange-block-requires c κs = let b = c .before .before in second-block (b .ar
 mul-greatest-above : tie.Need-mul-greatest-above
 mul-greatest-above c = search needs
 
-mul-greatest-above-2 : tie.Need-mul-greatest-above-2
-mul-greatest-above-2 c = search needs
-
-mul-greatest-above-3 : tie.Need-mul-greatest-above-3
-mul-greatest-above-3 c = search needs
-
 greatest-above-requires : tie.Need-greatest-above-requires
 greatest-above-requires c κs =
     let b = c .before .before .before .before .before .before in
@@ -51,8 +45,6 @@ second-limits-spec =
     mul-exchange-block
     exchange-block-requires
     mul-greatest-above
-    mul-greatest-above-2
-    mul-greatest-above-3
     greatest-above-requires
     mul-exchange
     mul-exchange-2

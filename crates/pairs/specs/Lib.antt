@@ -1,0 +1,3 @@
+-- What the contracts of `pairs` cite.
+pub mod Joining
+pub mod Searching

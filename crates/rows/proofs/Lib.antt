@@ -1,0 +1,4 @@
+-- What several proofs use.
+pub mod GradesLaws
+pub mod BlockLaws
+pub mod RowLaws

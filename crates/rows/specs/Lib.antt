@@ -1,0 +1,3 @@
+-- What the contracts of `rows` cite.
+pub mod Grades
+pub mod Blocks
