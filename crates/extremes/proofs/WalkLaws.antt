@@ -28,7 +28,7 @@ use Rattle.rows.specs.Grades.{source, Room, Reads}
 use Rattle.rows.specs.Blocks.{Several, Tables, Repeated}
 use Rattle.extremes.specs.Walk.{Extreme, Class, Swept}
 use Rattle.rows.proofs.GradesLaws.{unread, reads-on, room-same, fewer}
-use Rattle.rows.proofs.BlockLaws.{counted}
+use Rattle.rows.proofs.BlockLaws.{counted, run-end}
 use Rattle.extremes.proofs.AgreeLaws.{low-low, low-high, agree-none, agree-all, agree-low, agree-top, agree-up}
 
 -- the same extreme, of numbers that are told otherwise
@@ -372,18 +372,44 @@ swept-more {greatest} {ks} {set} {size} {n} {g} {w} {to} b {w′} {w″} len s n
     more : size * (b + 1) ≡ size * b + size
     more = rw (add-one b) (mul-suc size b)
 
--- a member: the rows of table b become one, that is walked on, and then repeated
-module _ {greatest : Bool} {ks : List ℕ} {i size n : ℕ} (p : Tables ks i size n) {set stp crd : ℕ} (es : stp ≡ step ks i) (ec : crd ≡ card ks i) (m : T (has set i))
-    {lent w : List ℕ} {from to : ℕ} (r : Reads lent w from to n) {b : ℕ} (h : b < n / size) {w′ : List ℕ}
-    (s : Swept greatest ks set size n (part (source lent w) from n) w to (size * b) w′) where
+-- the walk at a member, before table b: its step and cardinality as they are counted, and what it has done
+pub record Turn (greatest : Bool) (ks : List ℕ) (set i size n stp crd : ℕ) (lent w : List ℕ) (from to b : ℕ) (w′ : List ℕ) : Type 0 where
+  pub tables : Tables ks i size n
+  pub row : stp ≡ step ks i
+  pub count : crd ≡ card ks i
+  pub member : T (has set i)
+  pub reads : Reads lent w from to n
+  pub more : b < n / size
+  pub done : Swept greatest ks set size n (part (source lent w) from n) w to (size * b) w′
+
+-- the rows of table b become one, that is walked on, and then repeated
+module _ {greatest : Bool} {ks : List ℕ} {set i size n stp crd : ℕ} {lent w : List ℕ} {from to b : ℕ} {w′ : List ℕ} (u : Turn greatest ks set i size n stp crd lent w from to b w′) where
+  p : Tables ks i size n
+  p = u .tables
+
+  es : stp ≡ step ks i
+  es = u .row
+
+  ec : crd ≡ card ks i
+  ec = u .count
+
+  s : Swept greatest ks set size n (part (source lent w) from n) w to (size * b) w′
+  s = u .done
+
+  pub some-cells : 0 < stp
+  some-cells = steps p set stp crd es ec
+
+  pub some-rows : 0 < crd
+  some-rows = values p set stp crd es ec
+
   pub ends : size * b + size ≤ n
-  ends = let e = p .several .all in let q = counted (p .several) in omega (arith, line-end size (p .several .count) b (omega arith))
+  ends = run-end (p .several) (u .more)
 
   pub table-reads : Reads lent w′ (from + size * b) (to + size * b) size
-  table-reads = reads-on (size * b) size ends (room-same w′ (s .len) r)
+  table-reads = reads-on (size * b) size ends (room-same w′ (s .len) (u .reads))
 
   pub row-room : Room lent w′ (from + size * b) (stp * crd) (to + size * b) stp
-  row-room = let e = sized p set stp crd es ec in fewer (stp * crd) stp (omega arith) (omega (arith, line-end stp crd 0 (values p set stp crd es ec))) table-reads
+  row-room = let e = sized p set stp crd es ec in fewer (stp * crd) stp (omega arith) (omega (arith, line-end stp crd 0 (some-rows))) table-reads
 
   -- the row's bytes, in a buffer as long
   pub row-inside : (v : List ℕ) → length v ≡ length w′ → to + size * b + stp * crd ≤ length v
@@ -392,14 +418,14 @@ module _ {greatest : Bool} {ks : List ℕ} {i size n : ℕ} (p : Tables ks i siz
   pub row-in-place : (v : List ℕ) → length v ≡ length w′ → Reads [] v (to + size * b) (to + size * b) stp
   row-in-place v e =
       let r = row-inside v e in
-      let z = line-end stp crd 0 (values p set stp crd es ec) in
+      let z = line-end stp crd 0 (some-rows) in
       record { src = omega arith; dst = omega arith; aside = inl refl }
 
   abbrev g : List ℕ
   g = part (source lent w) from n
 
   grade : (k : ℕ) → size * b ≤ k → k < n → at (source lent w′) (from + k) ≡ at g k
-  grade k ge lt = unread w′ r (s .before) (λ j le. s .after j (omega (arith, ends))) k lt (λ x e. s .after (to + k) (omega arith)) ∙ sym (part-at (source lent w) from n k lt)
+  grade k ge lt = unread w′ (u .reads) (s .before) (λ j le. s .after j (omega (arith, ends))) k lt (λ x e. s .after (to + k) (omega arith)) ∙ sym (part-at (source lent w) from n k lt)
 
   module _ {w₁ w₂ w₃ : List ℕ} (l : Laid w′ (to + size * b) (tabulate stp (λ o. lineBest greatest (source lent w′) (from + size * b + o) stp crd)) stp w₁)
       (t : Swept greatest ks set stp stp (part w₁ (to + size * b) stp) w₁ (to + size * b) stp w₂) (q : Repeated w₂ (to + size * b) stp crd crd w₃) where
@@ -411,11 +437,8 @@ module _ {greatest : Bool} {ks : List ℕ} {i size n : ℕ} (p : Tables ks i siz
         sz : size ≡ stp * crd
         sz = sized p set stp crd es ec
 
-        hs : 0 < stp
-        hs = steps p set stp crd es ec
-
         row : stp ≤ stp * crd
-        row = omega (arith, line-end stp crd 0 (values p set stp crd es ec))
+        row = omega (arith, line-end stp crd 0 (some-rows))
 
         -- cell o + stp × v of the table
         cell : (o v : ℕ) → o < stp → v < crd → size * b + o + stp * v < n
@@ -426,14 +449,11 @@ module _ {greatest : Bool} {ks : List ℕ} {i size n : ℕ} (p : Tables ks i siz
             let e : from + size * b + o + stp * v ≡ from + (size * b + o + stp * v) = omega arith in
             ap (at (source lent w′)) e ∙ grade (size * b + o + stp * v) (omega arith) (cell o v ho hv)
 
-        hc : 0 < crd
-        hc = values p set stp crd es ec
-
         B : Bound (best greatest) (order greatest)
         B = best-bound greatest
 
         none : (o : ℕ) → o < stp → o / stp ≡ 0
-        none o ho = let k = div-below o stp 1 hs (omega (arith, mul-one stp)) in omega arith
+        none o ho = let k = div-below o stp 1 some-cells (omega (arith, mul-one stp)) in omega arith
 
         digits : (o v : ℕ) → size * b + o + stp * v ≡ o + stp * (v + crd * b)
         digits o v =
@@ -465,13 +485,13 @@ module _ {greatest : Bool} {ks : List ℕ} {i size n : ℕ} (p : Tables ks i siz
             o = d₀ % stp
 
             ho : o < stp
-            ho = mod-lt d₀ hs
+            ho = mod-lt d₀ some-cells
 
             v : ℕ
             v = d₀ / stp
 
             hv : v < crd
-            hv = div-below d₀ stp crd hs (omega (arith, sz))
+            hv = div-below d₀ stp crd some-cells (omega (arith, sz))
 
             split : c ≡ size * b + o + stp * v
             split = omega (arith, mod-add-div d₀ stp)
@@ -509,8 +529,8 @@ module _ {greatest : Bool} {ks : List ℕ} {i size n : ℕ} (p : Tables ks i siz
                   bound = λ d k.
                       let o′ = d % stp in
                       let v′ = d / stp % crd in
-                      let ho′ : o′ < stp = mod-lt d hs in
-                      let hv′ : v′ < crd = mod-lt (d / stp) hc in
+                      let ho′ : o′ < stp = mod-lt d some-cells in
+                      let hv′ : v′ < crd = mod-lt (d / stp) some-rows in
                       B .trans
                       (subst (λ (y : ℕ). order greatest y (R o′)) (at-cell o′ v′ ho′ hv′ ∙ ap (at g) (sym (other d k))) (line-bound greatest (source lent w′) (from + size * b + o′) stp crd v′ hv′))
                       (subst (λ (y : ℕ). order greatest y (at w₂ (to + size * b + o))) (row-at o′ ho′) (x .bound o′ (row-class o′ ho′ (subst (λ (y : ℕ). T (agreeOutside ks set y o′)) c-row (member-down p set stp crd es ec k)))));
@@ -519,10 +539,10 @@ module _ {greatest : Bool} {ks : List ℕ} {i size n : ℕ} (p : Tables ks i siz
                       (λ o′ k.
                       let ho′ = k .below in
                       subst (λ (y : ℕ). order greatest y bnd) (sym (row-at o′ ho′))
-                      (line-first greatest (source lent w′) (from + size * b + o′) stp crd bnd hc
+                      (line-first greatest (source lent w′) (from + size * b + o′) stp crd bnd some-rows
                       (λ v′ hv′.
                       subst (λ (y : ℕ). order greatest y bnd) (sym (at-cell o′ v′ ho′ hv′))
                       (hb (size * b + o′ + stp * v′)
-                      (member-up p set stp crd es ec m (cell o′ v′ ho′ hv′) (c-table ∙ sym (cell-table o′ v′ ho′ hv′))
+                      (member-up p set stp crd es ec (u .member) (cell o′ v′ ho′ hv′) (c-table ∙ sym (cell-table o′ v′ ho′ hv′))
                       (subst T (ap₂ (agreeOutside ks set) (mod-eq-of-lt ho ∙ sym c-row) (mod-eq-of-lt ho′ ∙ sym (cell-row o′ v′ ho′))) (k .agree)))))));
                 }

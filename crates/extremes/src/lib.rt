@@ -47,49 +47,43 @@ fn row_of(size: usize, card: usize) -> usize
     size / card
 }
 
+// What the walk needs at every place: which extreme, the places, the set, its lowest member, and how many low places
+// have no condition but members.
+struct Walk {
+    greatest: bool,
+    places: [u8; PLACES],
+    set: u8,
+    lowest: usize,
+    run: usize,
+}
+
 // The extremes over the members up to place i, in tables of `size` cells that lie one behind the other, n in all.
 fn over_places(
     lent: &[u8],
     w: &mut [u8],
-    greatest: bool,
-    ks: [u8; PLACES],
-    set: u8,
-    lowest: usize,
-    run: usize,
+    walk: Walk,
     i: usize,
     size: usize,
     n: usize,
     from: usize,
     to: usize,
 )
-    requires { ⌜ Tables ks i size n × Members ks set lowest run × (lowest ≤ i) × Reads (now lent) (now w) from to n ⌝ }
-    ensures { λ _. ⌜ Swept greatest ks set size n (part (source (now (lent .entry)) (now (w .entry))) from n) (now (w .entry)) to n (now (w .exit)) ⌝ }
+    requires { ⌜ Tables (walk .places) i size n × Members (walk .places) (walk .set) (walk .lowest) (walk .run) × (walk .lowest ≤ i) × Reads (now lent) (now w) from to n ⌝ }
+    ensures { λ _. ⌜ Swept (walk .greatest) (walk .places) (walk .set) size n (part (source (now (lent .entry)) (now (w .entry))) from n) (now (w .entry)) to n (now (w .exit)) ⌝ }
 {
-    if i < run {
+    let ks = walk.places;
+    let greatest = walk.greatest;
+    if i < walk.run {
         blocks::runs(lent, w, greatest, size, n, from, to);
         return;
     }
-    if i == lowest {
+    if i == walk.lowest {
         blocks::along(lent, w, greatest, ks, i, n, from, to);
         return;
     }
     let card = ks[i] as usize;
-    if !places::has_member(set, i) {
-        let below = row_of(size, card);
-        over_places(
-            lent,
-            w,
-            greatest,
-            ks,
-            set,
-            lowest,
-            run,
-            i - 1,
-            below,
-            n,
-            from,
-            to,
-        );
+    if !places::has_member(walk.set, i) {
+        over_places(lent, w, walk, i - 1, row_of(size, card), n, from, to);
         return;
     }
     let none = [0u8; 0];
@@ -98,20 +92,7 @@ fn over_places(
     for b in 0..count {
         let a = to + size * b;
         blocks::first_row(lent, w, greatest, from + size * b, a, step, card);
-        over_places(
-            &none,
-            w,
-            greatest,
-            ks,
-            set,
-            lowest,
-            run,
-            i - 1,
-            step,
-            step,
-            a,
-            a,
-        );
+        over_places(&none, w, walk, i - 1, step, step, a, a);
         blocks::repeat_row(w, a, step, card);
     }
 }
@@ -147,18 +128,12 @@ pub fn over_set(
         blocks::along(lent, w, greatest, ks, top, n, from, to);
         return;
     }
-    over_places(
-        lent,
-        w,
+    let walk = Walk {
         greatest,
-        ks,
+        places: ks,
         set,
         lowest,
         run,
-        top,
-        size,
-        n,
-        from,
-        to,
-    );
+    };
+    over_places(lent, w, walk, top, size, n, from, to);
 }

@@ -39,7 +39,7 @@ pub fn exchange_block(w: &mut [u8], gate: Gate, m: u8, from: usize, to: usize, n
 
 // Limits as the max join wants them, and back: the lower ones at `from`, then the upper ones, to the
 // two parts at `to`.
-pub fn exchange(w: &mut [u8], gate: Gate, m: u8, from: usize, to: usize, n: usize)
+fn exchange(w: &mut [u8], gate: Gate, m: u8, from: usize, to: usize, n: usize)
     requires { ⌜ Exchanging (now w) m from to n ⌝ }
     ensures { λ _. ⌜ Exchanged gate (now (w .entry)) m from to n (now (w .exit)) ⌝ }
 {
@@ -176,7 +176,7 @@ pub fn second_limits(w: &mut [u8], gate: Gate, ks: [u8; PLACES], m: u8, s: u8, n
 
 // Whether a lent table, which stands at `from` too, does not depend on a set: then it is its own greatest
 // over the set, which is made at `to`.
-pub fn blind(
+fn blind(
     w: &mut [u8],
     g: &[u8],
     ks: [u8; PLACES],
