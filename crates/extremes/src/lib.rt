@@ -3,8 +3,8 @@
 // the slice of the answers, beside these or at the same bytes.
 //
 // The walk goes down the places. At a member of the set the rows of a table, one for each of its values, become
-// one, which is walked on and then repeated: so each grade is read once and each answer written once, however many
-// members there are.
+// one, which is walked on and then repeated: so each grade is read once, and each answer written once but in that
+// row, which has what its classes have come to so far, however many members there are.
 use places::members;
 use rows::blocks;
 use rows::grades;
