@@ -409,7 +409,7 @@ module _ {greatest : Bool} {ks : List ℕ} {set i size n stp crd : ℕ} {lent w 
   table-reads = reads-on (size * b) size ends (room-same w′ (s .len) (u .reads))
 
   pub row-room : Room lent w′ (from + size * b) (stp * crd) (to + size * b) stp
-  row-room = let e = sized p set stp crd es ec in fewer (stp * crd) stp (omega arith) (omega (arith, line-end stp crd 0 (some-rows))) table-reads
+  row-room = let e = sized p set stp crd es ec in fewer (stp * crd) stp (omega arith) (omega (arith, line-end stp crd 0 some-rows)) table-reads
 
   -- the row's bytes, in a buffer as long
   pub row-inside : (v : List ℕ) → length v ≡ length w′ → to + size * b + stp * crd ≤ length v
@@ -418,7 +418,7 @@ module _ {greatest : Bool} {ks : List ℕ} {set i size n stp crd : ℕ} {lent w 
   pub row-in-place : (v : List ℕ) → length v ≡ length w′ → Reads [] v (to + size * b) (to + size * b) stp
   row-in-place v e =
       let r = row-inside v e in
-      let z = line-end stp crd 0 (some-rows) in
+      let z = line-end stp crd 0 some-rows in
       record { src = omega arith; dst = omega arith; aside = inl refl }
 
   abbrev g : List ℕ
@@ -438,7 +438,7 @@ module _ {greatest : Bool} {ks : List ℕ} {set i size n stp crd : ℕ} {lent w 
         sz = sized p set stp crd es ec
 
         row : stp ≤ stp * crd
-        row = omega (arith, line-end stp crd 0 (some-rows))
+        row = omega (arith, line-end stp crd 0 some-rows)
 
         -- cell o + stp × v of the table
         cell : (o v : ℕ) → o < stp → v < crd → size * b + o + stp * v < n
