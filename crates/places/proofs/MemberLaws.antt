@@ -10,7 +10,7 @@ use borrow.Author.Count.{below-more}
 use lib.Dec.{T, ltb}
 use lib.ListN.{length, getD}
 use Rattle.rules.specs.Cell.{present, has}
-use Rattle.laws.proofs.TestLaws.{passes, passed, and-pass}
+use Rattle.laws.proofs.TestLaws.{passes, passed, and-pass, and-l, and-r}
 use Rattle.laws.proofs.LoopLaws.{card-read}
 
 refuted : (m : Bool) → not m ≡ true → m ≡ false
@@ -32,6 +32,12 @@ outside set i {member} e f t = subst T (sym e ∙ refuted member f) t
 pub inside : (set i : ℕ) {member : Bool} → member ≡ has set i → not member ≡ false → T (has set i)
 inside set i {member} e f = passes (sym e ∙ upheld member f)
 
+-- a condition that is outside
+pub found-outside : (ks : List ℕ) (set i : ℕ) {member : Bool} → i < length ks → member ≡ has set i → (ltb 1 (getD ks i 0) && not member) ≡ true → T (present ks i) × (T (has set i) → ⊥)
+found-outside ks set i {member} h e q =
+    let t = passes q in
+    (subst T (ap (ltb 1) (card-read ks i h)) (and-l (ltb 1 (getD ks i 0)) (not member) t), outside set i e (passed (not member) (and-r (ltb 1 (getD ks i 0)) (not member) t)))
+
 pub lower : {a b : ℕ} → a ≤ b → (a ≡ b → ⊥) → a < b
 lower le ne = ⊎-elim (λ e. absurd (ne e)) (λ lt. lt) (eq-or-lt-of-le le)
 
@@ -42,12 +48,16 @@ above le ne = lower le (λ e. ne (sym e))
 -- the highest of the first n places that are members, and of one more
 pub record HighestOf (set n r : ℕ) : Type 0 where
   pub top : r < 8
+  pub member : (j : ℕ) → j < n → T (has set j) → T (has set r)
   pub none : (j : ℕ) → r < j → j < n → T (has set j) → ⊥
 
 pub highest-more : (set i top r : ℕ) (member : Bool) → i < 8 → member ≡ has set i → r ≡ cond member i top → HighestOf set i top → HighestOf set (i + 1) r
-highest-more set i top r true lt e q h = record { top = omega arith; none = λ j gt lt. absurd (omega arith) }
+highest-more set i top r true lt e q h =
+    record { top = omega arith; member = λ j _ _. subst (λ (k : ℕ). T (has set k)) (sym q) (passes (sym e)); none = λ j gt lt. absurd (omega arith) }
 highest-more set i top r false lt e q h =
     record {
       top = let t = h .top in omega arith;
+      member = λ j lt t.
+          subst (λ (k : ℕ). T (has set k)) (sym q) (below-more (λ j. T (has set j) → T (has set top)) i (h .member) (λ t. absurd (subst T (sym e) t)) j lt t);
       none = λ j gt lt. below-more (λ j. top < j → T (has set j) → ⊥) i (λ j lo up. h .none j up lo) (λ up t. subst T (sym e) t) j lt (omega arith);
     }

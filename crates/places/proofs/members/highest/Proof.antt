@@ -13,7 +13,7 @@ abbrev μ-loop : tie.MeasureT-loop
 μ-loop set top₀ i₀ top i = 8 - i
 
 loop-holds : tie.Need-loop-holds Inv-loop μ-loop
-loop-holds c = (search needs, record { top = omega arith; none = λ j gt lt. absurd (omega arith) })
+loop-holds c = (search needs, record { top = omega arith; member = λ j lt. absurd (omega arith); none = λ j gt lt. absurd (omega arith) })
 
 has-member-requires : tie.Need-has-member-requires Inv-loop μ-loop
 has-member-requires c = search needs
@@ -31,7 +31,7 @@ loop-again : tie.Need-loop-again Inv-loop μ-loop
 loop-again c = let l = c .before .before .before .loop in (search needs, highest-more _ (l .i) _ _ _ (search needs) (c .before .has-member .ensures) (c .later .ensures) (l .inv .1))
 
 returns : tie.Need-returns Inv-loop μ-loop
-returns c = let l = c .before .loop in record { top = l .inv .1 .top; none = λ j gt lt. l .inv .1 .none j gt (omega arith) }
+returns c = let l = c .before .loop in record { top = l .inv .1 .top; member = λ j lt. l .inv .1 .member j (omega arith); none = λ j gt lt. l .inv .1 .none j gt (omega arith) }
 
 pub highest-spec : {M : Type 1} → statement M
 highest-spec =

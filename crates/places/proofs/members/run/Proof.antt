@@ -6,7 +6,7 @@ use borrow.Author.Needs.{needs}
 use borrow.Author.Count.{below-more}
 use lib.Dec.{T}
 use Rattle.rules.specs.Cell.{present, has}
-use Rattle.places.proofs.MemberLaws.{kept-inside}
+use Rattle.places.proofs.MemberLaws.{kept-inside, found-outside}
 use Rattle.places.proofs.members.run.Statement.{statement}
 use Rattle.places.proofs.members.run.Tie as tie
 
@@ -29,7 +29,14 @@ is-outside-requires : tie.Need-is-outside-requires Inv-loop μ-loop
 is-outside-requires c = search needs
 
 returns : tie.Need-returns Inv-loop μ-loop
-returns c = record { top = let l = c .before .before .before .loop-test .taken in omega arith; inside = c .before .before .before .before .loop .inv .1 }
+returns c =
+    let l = c .before .before .before .before .loop in
+    let s = c .before .before .before .before .before .args in
+    record {
+      top = let l = c .before .before .before .loop-test .taken in omega arith;
+      inside = l .inv .1;
+      next = λ _. found-outside (s .t1) (s .set) (l .i) (search needs) (c .before .before .has-member .ensures) (sym (c .before .is-outside .ensures) ∙ c .if1 .taken);
+    }
 
 add-i : tie.Need-add-i Inv-loop μ-loop
 add-i c = search needs
@@ -44,7 +51,7 @@ loop-again c =
     (search needs, below-more (λ j. T (present (s .t1) j) → T (has (s .set) j)) (l .i) (l .inv .1) (kept-inside (s .t1) (s .set) (l .i) (search needs) (c .before .before .has-member .ensures) (sym (c .before .is-outside .ensures) ∙ c .if1 .left)))
 
 returns-2 : tie.Need-returns-2 Inv-loop μ-loop
-returns-2 c = let l = c .before .loop in record { top = search needs; inside = λ j lt. l .inv .1 j (omega arith) }
+returns-2 c = let l = c .before .loop in record { top = search needs; inside = λ j lt. l .inv .1 j (omega arith); next = λ lt. absurd (omega arith) }
 
 pub run-spec : {M : Type 1} → statement M
 run-spec =
