@@ -21,9 +21,8 @@ use Rattle.laws.proofs.DepthLaws.{tree-depth}
 use Rattle.laws.proofs.ByteLaws.{length-networkBytes}
 use Rattle.laws.proofs.TreeLaws.{length-records}
 use Rattle.laws.proofs.SizeLaws.{compiled-size}
-use Rattle.tables.specs.Part.{part, Laid}
+use Rattle.tables.specs.Part.{part, Laid, stageAt}
 use Rattle.tables.proofs.PartLaws.{part-at, part-length, laid-front}
-use Rattle.pairs.specs.Joining.{stageAt}
 use Rattle.stage_drops.specs.Working.{Proper}
 use Rattle.stage_steps.specs.declared.gates.Extent.{Extent}
 use Rattle.stages.specs.Staging.{Written, Numbered, Starts}

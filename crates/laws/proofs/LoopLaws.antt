@@ -1,12 +1,13 @@
 -- One round more of each loop, and what a search has found.
 use Prim.Native.Nat.{ℕ, zero, suc, _+_, _-_, _*_, _/_, _%_, _≤_, _<_}
 use mathlib.Core.Path.{_≡_, refl, sym, _∙_, ap, ap₂, subst}
-use mathlib.Core.Bool.{Bool, true, _&&_}
+use mathlib.Core.Bool.{Bool, true, false, _&&_}
 use mathlib.Core.List.{List, [], _∷_}
 use mathlib.Core.Logic.{⊎-elim}
 use native.Mathlib.Numerals.{add-one}
 use native.Mathlib.Nat.{div-one, mul-le-mul-left, add-zero, add-comm, add-assoc, mul-comm, mul-add, le-refl, not-suc-le-zero, le-of-suc-le-suc, eq-or-lt-of-le, mod-lt, mod-add-div}
 use native.Mathlib.Omega.{arith}
+use borrow.Author.Tests.{lt-ltb, le-ltb}
 use lib.Dec.{T, eqb, ltb}
 use lib.ListN.{length, getD, take}
 use Rattle.rules.specs.Bytes.{pick, at, numbersFrom}
@@ -122,6 +123,13 @@ pub card-read : (ks : List ℕ) (i : ℕ) → i < length ks → getD ks i 0 ≡ 
 card-read [] i h = absurd (not-suc-le-zero h)
 card-read (k ∷ ks) zero h = refl
 card-read (k ∷ ks) (suc i) h = card-read ks i (le-of-suc-le-suc h)
+
+-- whether a place has a condition, by its cardinality
+pub is-absent : (ks : List ℕ) (i : ℕ) → i < length ks → getD ks i 0 < 2 → present ks i ≡ false
+is-absent ks i h l = le-ltb 1 (card ks i) (omega (arith, card-read ks i h))
+
+pub is-present : (ks : List ℕ) (i : ℕ) → i < length ks → 2 ≤ getD ks i 0 → present ks i ≡ true
+is-present ks i h l = lt-ltb 1 (card ks i) (omega (arith, card-read ks i h))
 
 -- the step of the next place
 pub step-more : (ks : List ℕ) (i stp : ℕ) → i < length ks → stp ≡ step ks i → stp * getD ks i 0 ≡ step ks (i + 1)

@@ -34,13 +34,6 @@ module _ (w ks : List ℕ) (low high : ℕ) where
     pub within : j ≤ 8
     pub here : (k : ℕ) → i < k → k < j → T (Admitted i k) → ⊥
 
--- whether a place has a condition, by its cardinality
-pub is-absent : (ks : List ℕ) (i : ℕ) → i < length ks → getD ks i 0 < 2 → present ks i ≡ false
-is-absent ks i h l = le-ltb 1 (card ks i) (omega (arith, card-read ks i h))
-
-pub is-present : (ks : List ℕ) (i : ℕ) → i < length ks → 2 ≤ getD ks i 0 → present ks i ≡ true
-is-present ks i h l = lt-ltb 1 (card ks i) (omega (arith, card-read ks i h))
-
 refused : (b : Bool) → b ≡ false → T b → ⊥
 refused b e t = subst T e t
 

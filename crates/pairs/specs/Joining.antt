@@ -7,7 +7,6 @@ use lib.ListN.{length}
 use Rattle.rules.specs.Bytes.{at, all}
 use Rattle.rules.specs.Cell.{cells, singleton, leastOver}
 use Rattle.rules.specs.Join.{maxExists}
-use Rattle.rules.specs.Stage.{Stage}
 use Rattle.tables.specs.Part.{part, Shaped}
 
 -- two tables over the places ks
@@ -15,10 +14,6 @@ pub record Tables (w ks : List ℕ) (a b : ℕ) : Type 0 where
   pub shaped : Shaped ks
   pub first : a + cells ks ≤ length w
   pub second : b + cells ks ≤ length w
-
--- the stage whose limits stand at low and at high
-abbrev pub stageAt : List ℕ → List ℕ → ℕ → ℕ → Stage
-stageAt ks w low high = record { ks = ks; limits = record { lower = part w low (cells ks); upper = part w high (cells ks) } }
 
 -- whether the max join at two sets exists, under the lower grades l and the upper grades u
 unfoldable pub joins : List ℕ → List ℕ → List ℕ → ℕ → ℕ → Bool

@@ -15,13 +15,12 @@ use Rattle.rules.specs.Network.{combine}
 use Rattle.rules.specs.Stage.{outside}
 use Rattle.laws.proofs.TableLaws.{length-tabulateFrom}
 use Rattle.laws.proofs.CellLaws.{cell-lt, moved-at}
-use Rattle.tables.specs.Part.{part, Laid, Shaped, Apart, Two}
+use Rattle.tables.specs.Part.{part, Laid, Shaped, Apart, Two, stageAt}
 use Rattle.tables.proofs.PartLaws.{part-length, laid-as, laid-part, laid-apart}
 use Rattle.join_tables.specs.Parts.{turned, Below}
 use Rattle.join_tables.proofs.HoldLaws.{laid-within}
 use Rattle.join_tables.proofs.TurnLaws.{below-part}
 use Rattle.join_tables.proofs.StepLaws.{before, behind, above-below, grades-below}
-use Rattle.pairs.specs.Joining.{stageAt}
 use Rattle.stage_drops.specs.Working.{Room}
 use Rattle.stage_blocks.specs.Blocks.{stageOf, Clear, Source, LimitsRoom, LimitsLaid, FirstRoom, FirstLaid, SecondRoom, SecondLaid, JoinedRoom, JoinedLaid}
 use Rattle.stage_drops.proofs.DropLaws.{fewer-shaped}

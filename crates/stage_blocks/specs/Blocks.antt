@@ -10,9 +10,8 @@ use Rattle.rules.specs.Cell.{cells, without, moved}
 use Rattle.rules.specs.Limits.{Limits, each}
 use Rattle.rules.specs.Network.{combine}
 use Rattle.rules.specs.Stage.{Stage, firstStage, secondStage}
-use Rattle.tables.specs.Part.{part, Shaped}
+use Rattle.tables.specs.Part.{part, Shaped, stageAt}
 use Rattle.join_tables.specs.Parts.{Below}
-use Rattle.pairs.specs.Joining.{stageAt}
 use Rattle.stage_drops.specs.Working.{Room, ForSecond, ForBoth}
 
 abbrev pub stageOf : List ℕ → Limits → Stage

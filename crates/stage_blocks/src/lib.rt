@@ -7,7 +7,7 @@ use tables::fill;
 ghost use Prim.Native.Nat.{_+_, _*_, _≤_};
 ghost use Rattle.rules.specs.Cell.{cells};
 ghost use Rattle.rules.specs.Join.{exchangeFor};
-ghost use Rattle.pairs.specs.Joining.{stageAt};
+ghost use Rattle.tables.specs.Part.{stageAt};
 ghost use Rattle.stage_blocks.specs.Blocks.{Source, LimitsRoom, LimitsLaid, FirstRoom, FirstLaid, SecondRoom, SecondLaid, JoinedRoom, JoinedLaid};
 
 // Two tables over the places ks, moved to the places b: a stage's limits, at 8 × c.

@@ -7,11 +7,10 @@ use Rattle.rules.specs.declared.Gate.the-variants.{Min, Max}
 use Rattle.rules.specs.Stage as rules
 use Rattle.rules.specs.Cell.{cells}
 use Rattle.rules.specs.Stage.{Stage, split, joining, chosen}
-use Rattle.tables.specs.Part.{part}
+use Rattle.tables.specs.Part.{part, stageAt}
 use Rattle.join_tables.specs.Parts.{turned, Below}
 use Rattle.grouping.specs.declared.Found.{Found}
 use Rattle.grouping.specs.declared.Found.the-variants.{Sets as Some}
-use Rattle.pairs.specs.Joining.{stageAt}
 use Rattle.grouping.specs.Growing.{Kept, foundSets}
 use Rattle.stage_choice.specs.declared.Choice.{Choice}
 use Rattle.stage_choice.specs.declared.Choice.the-variants.{Split, Join}

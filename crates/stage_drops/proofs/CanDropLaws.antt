@@ -11,13 +11,12 @@ use Rattle.rules.specs.Stage.{fits, merged}
 use Rattle.laws.proofs.TestLaws.{same-test}
 use Rattle.laws.proofs.TableLaws.{all-at, all-of, all-false}
 use Rattle.laws.proofs.OverLaws.{max-bound, min-bound, over-self, over-least, over-blind}
-use Rattle.tables.specs.Part.{part, Shaped}
+use Rattle.tables.specs.Part.{part, Shaped, stageAt}
 use Rattle.lines.specs.Along.{leastOn}
 use Rattle.lines.specs.declared.Along.{Along}
 use Rattle.tables.proofs.PartLaws.{part-at}
 use Rattle.tables.proofs.ScanLaws.{all-passed}
 use Rattle.lines.proofs.AlongLaws.{Walks, walks-least}
-use Rattle.pairs.specs.Joining.{stageAt}
 use Rattle.stage_drops.specs.Working.{frontStage}
 
 -- the test at every cell, under the rules' definitions

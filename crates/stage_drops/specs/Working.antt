@@ -9,8 +9,7 @@ use Rattle.rules.specs.Cell.{cells}
 use Rattle.rules.specs.Join.{uA, uB, exchangeFor}
 use Rattle.rules.specs.Limits.{Limits}
 use Rattle.rules.specs.Stage.{Stage}
-use Rattle.tables.specs.Part.{part, Shaped}
-use Rattle.pairs.specs.Joining.{stageAt}
+use Rattle.tables.specs.Part.{part, Shaped, stageAt}
 
 -- a buffer for a stage over the places ks: eight parts of c bytes, a byte for each cell
 pub record Room (w ks : List ℕ) (c : ℕ) : Type 0 where

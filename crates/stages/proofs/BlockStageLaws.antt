@@ -19,10 +19,9 @@ use Rattle.laws.proofs.JoinLaws.{uA-under, uB-under}
 use Rattle.laws.proofs.TreeLaws.{computed-at, made-below}
 use Rattle.laws.proofs.StageLaws.{Ready, admitted, network-ok, first-ready, second-ready, first-inside}
 use Rattle.laws.proofs.FunctionLaws.{first-moved, joined}
-use Rattle.tables.specs.Part.{part}
+use Rattle.tables.specs.Part.{part, stageAt}
 use Rattle.tables.proofs.PartLaws.{part-at}
 use Rattle.join_tables.specs.Parts.{Below}
-use Rattle.pairs.specs.Joining.{stageAt}
 use Rattle.stage_drops.specs.Working.{ForSecond}
 use Rattle.stage_blocks.specs.Blocks.{stageOf, FirstRoom, FirstLaid, SecondRoom, SecondLaid, JoinedRoom}
 use Rattle.stage_blocks.proofs.BlockLaws.{there}

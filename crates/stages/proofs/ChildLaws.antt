@@ -12,8 +12,7 @@ use Rattle.rules.specs.Stage.{Stage, treeOf}
 use Rattle.laws.proofs.TestLaws.{by-test}
 use Rattle.laws.proofs.CellLaws.{card-in, card-out, without-lt, without-half}
 use Rattle.laws.proofs.StageLaws.{Ready}
-use Rattle.tables.specs.Part.{part, Shaped}
-use Rattle.pairs.specs.Joining.{stageAt}
+use Rattle.tables.specs.Part.{part, Shaped, stageAt}
 use Rattle.stage_drops.specs.Working.{Proper}
 use Rattle.stage_blocks.specs.Blocks.{stageOf}
 use Rattle.stage_drops.proofs.DropLaws.{fewer-shaped}

@@ -11,9 +11,8 @@ use Rattle.rules.specs.Bytes.{at}
 use Rattle.rules.specs.Cell.{cells}
 use Rattle.rules.specs.Limits.{Limits}
 use Rattle.rules.specs.Stage.{Stage}
-use Rattle.tables.specs.Part.{part}
+use Rattle.tables.specs.Part.{part, stageAt}
 use Rattle.tables.proofs.PartLaws.{part-at, part-length, part-same}
-use Rattle.pairs.specs.Joining.{stageAt}
 
 abbrev pub rest : ℕ → List ℕ → List ℕ
 rest a w = take (length w - a) (drop a w)

@@ -24,10 +24,9 @@ use Rattle.laws.proofs.StageLaws.{Ready, cofactor-ready, cofactor-lt}
 use Rattle.laws.proofs.FunctionLaws.{splitted}
 use Rattle.places.specs.declared.sets.Condition.{Condition}
 use Rattle.places.specs.Conditions.{IsLowest}
-use Rattle.tables.specs.Part.{part, Laid, Apart, Two}
+use Rattle.tables.specs.Part.{part, Laid, Apart, Two, stageAt}
 use Rattle.tables.specs.Line.{Spread}
 use Rattle.tables.proofs.PartLaws.{part-at, part-same, part-length, laid-part}
-use Rattle.pairs.specs.Joining.{stageAt}
 use Rattle.stage_drops.specs.Working.{frontStage}
 use Rattle.stage_steps.specs.declared.gates.Extent.{Extent}
 use Rattle.stage_steps.specs.Extents.{TreePut}

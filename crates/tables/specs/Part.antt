@@ -6,6 +6,7 @@ use mathlib.Core.Logic.{_⊎_}
 use lib.ListN.{length, take, drop}
 use Rattle.rules.specs.Bytes.{at}
 use Rattle.rules.specs.Cell.{Positive, cells}
+use Rattle.rules.specs.Stage.{Stage}
 
 -- the n bytes from a on
 unfoldable pub part : List ℕ → ℕ → ℕ → List ℕ
@@ -32,3 +33,7 @@ Two w from to n = Apart w from n to n
 pub record Shaped (ks : List ℕ) : Type 0 where
   pub some : Positive ks
   pub few : cells ks ≤ 1024
+
+-- the stage whose limits stand at low and at high
+abbrev pub stageAt : List ℕ → List ℕ → ℕ → ℕ → Stage
+stageAt ks w low high = record { ks = ks; limits = record { lower = part w low (cells ks); upper = part w high (cells ks) } }

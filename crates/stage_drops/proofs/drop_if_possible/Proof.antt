@@ -2,7 +2,7 @@
 use mathlib.Core.Path.{sym, _∙_}
 use borrow.Author.Needs.{needs}
 use Rattle.stage_drops.proofs.DropLaws.{drop-absent, drop-crossed, drop-one}
-use Rattle.pairs.proofs.SearchLaws.{is-absent, is-present}
+use Rattle.laws.proofs.LoopLaws.{is-absent, is-present}
 use Rattle.stage_drops.proofs.drop_if_possible.Statement.{statement}
 use Rattle.stage_drops.proofs.drop_if_possible.Tie as tie
 

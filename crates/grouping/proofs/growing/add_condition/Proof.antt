@@ -5,7 +5,7 @@ use borrow.Author.Tests.{le-leb, lt-leb}
 use Rattle.rules.specs.Cell.{present}
 use Rattle.grouping.proofs.GrowLaws.{Open, not-there, in-first, in-second, first-smaller, second-smaller}
 use Rattle.grouping.proofs.KeptLaws.{turn-space}
-use Rattle.pairs.proofs.SearchLaws.{is-absent, is-present}
+use Rattle.laws.proofs.LoopLaws.{is-absent, is-present}
 use borrow.Author.Needs.{needs}
 use Rattle.grouping.proofs.growing.add_condition.Statement.{statement}
 use Rattle.grouping.proofs.growing.add_condition.Tie as tie

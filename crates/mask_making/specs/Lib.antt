@@ -1,0 +1,2 @@
+-- What the contracts of `mask_making` cite.
+pub mod Making

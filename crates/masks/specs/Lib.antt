@@ -1,0 +1,3 @@
+-- What the contracts of `masks` cite.
+pub mod Masks
+pub mod Searching
