@@ -2,3 +2,4 @@
 pub mod EndLaws
 pub mod ExtentLaws
 pub mod ValueLaws
+pub mod WantLaws

@@ -1,9 +1,9 @@
 -- What a split does for one value: the tables before that value's stage, the gates behind it.
-use Prim.Native.Nat.{ℕ, _+_, _*_, _≤_, _<_}
+use Prim.Native.Nat.{ℕ, suc, _+_, _*_, _≤_, _<_}
 use mathlib.Core.Path.{_≡_, refl, sym, _∙_, ap}
 use mathlib.Core.List.{List, [], _∷_}
-use mathlib.Core.Logic.{inl}
-use native.Mathlib.Nat.{zero-add, add-zero, mul-zero, mul-comm, mul-assoc, mul-add}
+use mathlib.Core.Logic.{inl, inr}
+use native.Mathlib.Nat.{zero-add, mul-comm, mul-assoc, mul-add, mul-le-mul-right, suc-mul}
 use native.Mathlib.Omega.{arith}
 use lib.Dec.{eqb}
 use lib.ListN.{length}
@@ -19,28 +19,28 @@ use Rattle.tables.proofs.PartLaws.{part-at, part-length}
 use Rattle.network_records.specs.Putting.{Put}
 use Rattle.stage_steps.specs.declared.gates.Extent.{Extent}
 use Rattle.stage_steps.specs.Extents.{GatePut}
-use Rattle.stage_steps.specs.Values.{valueCells, ValueRoom, ValueBegun, ValueEnded}
+use Rattle.stage_steps.specs.Values.{valueCells, ValueRoom, ValueBegun, KeepRoom, ValueEnded}
 use Rattle.stage_steps.proofs.ExtentLaws.{tree-one}
 
 module _ {w : List ℕ} {n values c k r : ℕ} (p : ValueRoom w n values c k r) where
-  -- both tables of limits, side by side
-  twice : values * (2 * n) ≡ 2 * c
-  twice = let o = p .own in omega (arith, mul-comm values (2 * n), mul-assoc 2 n values, mul-comm n values)
+  -- so many tables, side by side
+  several : (q : ℕ) → values * (q * n) ≡ q * c
+  several q = let o = p .own in ap (λ (x : ℕ). values * x) (mul-comm q n) ∙ sym (mul-assoc values n q) ∙ ap (λ (x : ℕ). x * q) o ∙ mul-comm c q
 
-  pub limits-room : Apart w 0 (values * (2 * n)) (8 * c) (2 * n)
-  limits-room =
+  pub tables-room : Apart w 0 (values * (4 * n)) (8 * c) (4 * n)
+  tables-room =
       let h = p .work in
-      let t = twice in
+      let t = several 4 in
       record { src = omega arith; dst = omega arith; apart = inl (omega arith) }
 
-  module _ {w′ : List ℕ} (l : Laid w (8 * c) (valueCells (part w 0 (values * (2 * n))) (2 * n) values k) (2 * n) w′) where
-    -- cell j of either
-    cell : (j : ℕ) → j < 2 * n → at w′ (8 * c + j) ≡ at w (k + values * j)
+  module _ {w′ : List ℕ} (l : Laid w (8 * c) (valueCells (part w 0 (values * (4 * n))) (4 * n) values k) (4 * n) w′) where
+    -- cell j of any
+    cell : (j : ℕ) → j < 4 * n → at w′ (8 * c + j) ≡ at w (k + values * j)
     cell j h =
-        l .here j h ∙ at-tabulate (2 * n) _ j h ∙ part-at w 0 (values * (2 * n)) (k + values * j) (digit-below values k j (2 * n) (p .below) h) ∙ ap (at w) (zero-add (k + values * j))
+        l .here j h ∙ at-tabulate (4 * n) _ j h ∙ part-at w 0 (values * (4 * n)) (k + values * j) (digit-below values k j (4 * n) (p .below) h) ∙ ap (at w) (zero-add (k + values * j))
 
     -- the table at a, which has c cells, gives the n at b
-    given : (a b : ℕ) → b + n ≤ 2 * n → values * b ≡ a → part w′ (8 * c + b) n ≡ valueCells (part w a (values * n)) n values k
+    given : (a b : ℕ) → b + n ≤ 4 * n → values * b ≡ a → part w′ (8 * c + b) n ≡ valueCells (part w a (values * n)) n values k
     given a b h e =
         let e′ = l .len in
         let f = p .work in
@@ -58,11 +58,16 @@ module _ {w : List ℕ} {n values c k r : ℕ} (p : ValueRoom w n values c k r) 
     value-begun {i} {top} q =
         record {
           put = tree-one (lookup i (tabulate values (λ v. pick (eqb v k) top 0))) refl refl q;
-          lows = ap (λ (a : ℕ). part w′ a n) (sym (add-zero (8 * c))) ∙ given 0 0 (omega arith) (mul-zero values);
-          highs = given c n (omega arith) (p .own);
+          tables = λ q h. given (q * c) (q * n) (let e : suc q * n ≤ 4 * n = mul-le-mul-right n h in omega (arith, suc-mul q n)) (several q);
           before = l .before;
           len = l .len;
         }
+
+pub keep-room : {w : List ℕ} {n values c k : ℕ} → KeepRoom w n values c k → Apart w (8 * c) n (4 * c) (values * n)
+keep-room p =
+    let o = p .own in
+    let h = p .work in
+    record { src = omega arith; dst = omega arith; apart = inr (omega arith) }
 
 -- the gates of the first value, and of one after it
 module _ {k : ℕ} {total literal of : Extent} {net : List ℕ} {part : Extent} {v : List ℕ} (g : GatePut Min literal of net part v) where

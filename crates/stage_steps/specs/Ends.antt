@@ -1,6 +1,7 @@
 -- How a stage ends.
 use Prim.Native.Nat.{ℕ, _*_, _≤_, _<_}
 use mathlib.Core.Path.{_≡_}
+use mathlib.Core.Bool.{Bool}
 use mathlib.Core.List.{List}
 use lib.ListN.{length}
 use Rattle.rules.specs.declared.Gate.{Gate}
@@ -12,6 +13,7 @@ use Rattle.tables.specs.Part.{part, Shaped}
 use Rattle.stage_blocks.specs.Blocks.{JoinedLaid}
 use Rattle.stage_steps.specs.declared.gates.Extent.{Extent}
 use Rattle.stage_steps.specs.Extents.{TreePut, GatePut}
+use Rattle.stage_steps.specs.Wanting.{Wanted}
 
 -- none left, or the condition `low`: a lower grade for each of its values is at the front of the work buffer
 pub record LeafRoom (w : List ℕ) (low : Condition) (r : ℕ) : Type 0 where
@@ -40,7 +42,7 @@ pub record SpreadLaid (ks b w w′ : List ℕ) : Type 0 where
   pub here : part w′ 0 (cells ks) ≡ moved b ks (part w 0 (cells b))
   pub len : length w′ ≡ length w
 
--- a join's blocks have their networks: the gate over them, and the join's function
-pub record Closed (by : Gate) (ks b : List ℕ) (c : ℕ) (first second : Extent) (w net : List ℕ) (of : Extent) (w′ net′ : List ℕ) : Type 0 where
+-- a join's blocks have their networks: the gate over them, and the join's function where it is wanted
+pub record Closed (by : Gate) (ks b : List ℕ) (c : ℕ) (first second : Extent) (want : Bool) (w net : List ℕ) (of : Extent) (w′ net′ : List ℕ) : Type 0 where
   pub gate : GatePut by first second net of net′
-  pub function : JoinedLaid by ks b c w w′
+  pub function : Wanted want (JoinedLaid by ks b c w) w w′

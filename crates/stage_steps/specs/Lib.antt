@@ -2,3 +2,4 @@
 pub mod Ends
 pub mod Extents
 pub mod Values
+pub mod Wanting

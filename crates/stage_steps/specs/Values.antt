@@ -20,16 +20,21 @@ pub record ValueRoom (w : List ℕ) (n values c k r : ℕ) : Type 0 where
   pub below : k < values
   pub few : values ≤ 8
   pub own : values * n ≡ c
-  pub work : 8 * c + 2 * n ≤ length w
+  pub work : 8 * c + 4 * n ≤ length w
   pub number : r < 65536
 
--- the literal that selects k is record r, and the limits of the stage for k stand at 8 × c
+-- the literal that selects k is record r, and the limits of the stage for k and its masks stand at 8 × c
 pub record ValueBegun (i values n c k top : ℕ) (w net : List ℕ) (r : ℕ) (of : Extent) (w′ net′ : List ℕ) : Type 0 where
   pub put : TreePut (lookup i (tabulate values (λ v. pick (eqb v k) top 0))) net r of net′
-  pub lows : part w′ (8 * c) n ≡ valueCells (part w 0 (values * n)) n values k
-  pub highs : part w′ (8 * c + n) n ≡ valueCells (part w c (values * n)) n values k
+  pub tables : (q : ℕ) → q < 4 → part w′ (8 * c + q * n) n ≡ valueCells (part w (q * c) (values * n)) n values k
   pub before : (j : ℕ) → j < 8 * c → at w′ j ≡ at w j
   pub len : length w′ ≡ length w
+
+-- the function of the stage for k at 8 × c, and room for all in part 4
+pub record KeepRoom (w : List ℕ) (n values c k : ℕ) : Type 0 where
+  pub below : k < values
+  pub own : values * n ≡ c
+  pub work : 8 * c + n ≤ length w
 
 -- the stage for k has its network: room for a min over its literal and that, and from the second value on for a max over the total so far and
 -- this min

@@ -3,11 +3,18 @@ use crate::gates;
 use crate::gates::Extent;
 use network_records::put_selector;
 use rules::Gate;
-ghost use Rattle.stage_steps.specs.Values.{ValueRoom, ValueBegun, EndRoom, ValueEnded};
+use tables::fill;
+ghost use Prim.Native.Nat.{_+_, _*_, _≤_};
+ghost use lib.ListN.{length};
+ghost use Rattle.rules.specs.Bytes.{at};
+ghost use Rattle.tables.specs.Line.{Spread};
+ghost use Rattle.tables.specs.Part.{part, Laid};
+ghost use Rattle.stage_steps.specs.Values.{ValueRoom, ValueBegun, KeepRoom, EndRoom, ValueEnded};
+ghost use Rattle.stage_steps.specs.Wanting.{Wanted};
 
-// The literal that selects value k of condition i, as record r, and the limits of the cells with
-// that value, n of them, at 8 × c. The upper limits stand right behind the lower ones, here and there, so
-// one move takes both.
+// The literal that selects value k of condition i, as record r, and the limits and masks of the cells with
+// that value, n of them, at 8 × c. The four tables stand one behind the other, here and there, so one move
+// takes all.
 pub fn begin_value(
     w: &mut [u8],
     network: &mut [u8],
@@ -23,10 +30,31 @@ pub fn begin_value(
     ensures { λ of. ⌜ ValueBegun i values n c k top (now (w .entry)) (now (network .entry)) r of (now (w .exit)) (now (network .exit)) ⌝ }
 {
     put_selector(network, r, i, values, k, top);
-    moves::cofactor(w, 0, 8 * c, 2 * n, values, k);
+    moves::cofactor(w, 0, 8 * c, 4 * n, values, k);
     Extent {
         next: r + 1,
         depth: 0,
+    }
+}
+
+// The function of value k's stage, from 8 × c, at the cells with that value of the table in part 4, where it is
+// wanted.
+pub fn keep_value(w: &mut [u8], want: bool, n: usize, values: usize, c: usize, k: usize)
+    requires { ⌜ KeepRoom (now w) n values c k ⌝ }
+    ensures { λ _. ⌜ Wanted want (Spread (now (w .entry)) (4 * c + k) values (at (part (now (w .entry)) (8 * c) n)) n) (now (w .entry)) (now (w .exit)) ⌝ }
+{
+    if want {
+        moves::uncofactor(w, 8 * c, 4 * c, n, values, k);
+    }
+}
+
+// The functions of all values, from part 4, at the front, where they are wanted.
+pub fn collect(w: &mut [u8], want: bool, c: usize)
+    requires { ⌜ 5 * c ≤ length (now w) ⌝ }
+    ensures { λ _. ⌜ Wanted want (Laid (now (w .entry)) 0 (part (now (w .entry)) (4 * c) c) c) (now (w .entry)) (now (w .exit)) ⌝ }
+{
+    if want {
+        fill::copy(w, 4 * c, 0, c);
     }
 }
 

@@ -1,5 +1,5 @@
 -- `stage_steps::values::begin_value` meets its contract.
-use Rattle.stage_steps.proofs.ValueLaws.{limits-room, value-begun}
+use Rattle.stage_steps.proofs.ValueLaws.{tables-room, value-begun}
 use borrow.Author.Needs.{needs}
 use Rattle.stage_steps.proofs.values.begin_value.Statement.{statement}
 use Rattle.stage_steps.proofs.values.begin_value.Tie as tie
@@ -14,7 +14,7 @@ mul-cofactor-2 : tie.Need-mul-cofactor-2
 mul-cofactor-2 c = search needs
 
 cofactor-requires : tie.Need-cofactor-requires
-cofactor-requires c κs = let p = c .before .before .before .before .before .before .before .pre in (search needs, limits-room p)
+cofactor-requires c κs = let p = c .before .before .before .before .before .before .before .pre in (search needs, tables-room p)
 
 add-t15 : tie.Need-add-t15
 add-t15 c = search needs
