@@ -1,0 +1,4 @@
+-- What several proofs use.
+pub mod MaskLaws
+pub mod UnionLaws
+pub mod ScanLaws
