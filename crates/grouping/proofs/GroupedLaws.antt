@@ -1,49 +1,38 @@
--- The whole grouping, from the pair that was found and the sets that grew from it.
-use Prim.Native.Nat.{ℕ, _<_}
-use mathlib.Core.Path.{_≡_, refl, sym, _∙_, ap, ap₂, subst}
+-- The whole grouping, from the first pair that joins and the sets that grew from it.
+use Prim.Native.Nat.{ℕ}
+use mathlib.Core.Path.{_≡_, sym, _∙_, ap, ap₂}
+use mathlib.Core.Bool.{Bool}
 use mathlib.Core.List.{List}
 use Rattle.rules.specs.Bytes.{numbersFrom}
 use Rattle.rules.specs.Cell.{cells, present, singleton}
-use Rattle.rules.specs.Stage.{sets, grow}
+use Rattle.rules.specs.Stage.{none, sets, firstPair, grow, grouping}
 use Rattle.tables.specs.Part.{part}
-use Rattle.pairs.specs.Joining.{joins, joinsAt}
-use Rattle.pairs.specs.Searching.{pairSets, Rising, FirstPair}
-use Rattle.grouping.specs.Growing.{Held, Space, Started, Grows, setsOf, Grouped}
-use Rattle.pairs.specs.declared.Pair.{Pair}
-use Rattle.pairs.specs.declared.Pair.the-variants.{Nothing as NoPair, Found as APair}
+use Rattle.grouping.specs.Joining.{joins, joinsAt}
+use Rattle.grouping.specs.Growing.{Held, Space, Started, Grows, First, setsOf, Grouped}
 use Rattle.grouping.specs.declared.Sets.{Sets}
-use Rattle.grouping.specs.declared.Found.the-variants.{Nothing, Sets as Some}
-use Rattle.grouping.proofs.KeptLaws.{kept-self, kept-then, kept-part}
+use Rattle.grouping.proofs.KeptLaws.{kept-then, kept-part}
 
-module _ {w ks : List ℕ} {low high : ℕ} {r : Pair} (f : FirstPair w ks low high r) where
-  pub grouped-none : (a b : ℕ) → r ≡ NoPair → Grouped w ks low high a b Nothing w
-  grouped-none a b e =
-      record {
-        is = ap (grow (present ks) (joinsAt ks w low high) (numbersFrom 0 8)) (sym (ap pairSets e) ∙ f .is);
-        held = tt;
-        kept = kept-self w a b (cells ks);
-        off = λ q. refl;
-      }
+-- where no pair joins, nothing does
+pub grouped-nothing : (ks : List ℕ) (joins : ℕ → ℕ → Bool) → none ≡ firstPair (present ks) joins (numbersFrom 0 8)
+    → none ≡ grouping (present ks) joins (numbersFrom 0 8)
+grouped-nothing ks joins e = ap (grow (present ks) joins (numbersFrom 0 8)) e
 
-  module _ {i j : ℕ} (e : r ≡ APair i j) where
-    pub rising : (i < j) × (j < 8)
-    rising = subst Rising e (f .rising)
+-- the tables of the pair, and those of the sets that it has grown to
+pub grouped : {w ks : List ℕ} {low high i j a b : ℕ} {w′ w″ : List ℕ} {p q : Sets} → First (joinsAt ks w low high) ks i j → Space w ks low a b
+    → Started w ks i j high a b w′ → p .s ≡ singleton i → p .t ≡ singleton j
+    → Grows w′ ks low a b (p .s) (p .t) (λ js. grow (present ks) js (numbersFrom 0 8) (setsOf p)) (q .s) (q .t) w″ → Grouped w ks low high a b q w″
+grouped {w} {ks} {low} {high} {i} {j} {a} {b} {w′} {w″} {p} {q} f sp st es et g =
+    record {
+      is =
+          g .is u h
+          ∙ ap (λ (l : List ℕ). grow (present ks) (joins ks l u) (numbersFrom 0 8) (setsOf p)) (kept-part (sp .first) (sp .second) (st .kept))
+          ∙ ap (grow (present ks) (joinsAt ks w low high) (numbersFrom 0 8)) (ap₂ sets es et ∙ f .is);
+      held = g .held u h;
+      kept = kept-then (st .kept) (g .kept);
+    }
+  where
+    u : List ℕ
+    u = part w high (cells ks)
 
-    pub grouped-some : {a b : ℕ} {w′ : List ℕ} {p q : Sets} {w″ : List ℕ} → Space w ks low a b → Started w ks i j high a b w′ → p .s ≡ singleton i → p .t ≡ singleton j
-        → Grows w′ ks low a b (p .s) (p .t) (λ js. grow (present ks) js (numbersFrom 0 8) (setsOf p)) (q .s) (q .t) w″ → Grouped w ks low high a b (Some q) w″
-    grouped-some {a} {b} {w′} {p} {q} sp st es et g =
-        record {
-          is =
-              g .is u h
-              ∙ ap (λ (l : List ℕ). grow (present ks) (joins ks l u) (numbersFrom 0 8) (setsOf p)) (kept-part (sp .first) (sp .second) (st .kept))
-              ∙ ap (grow (present ks) (joinsAt ks w low high) (numbersFrom 0 8)) (ap₂ sets es et ∙ sym (ap pairSets e) ∙ f .is);
-          held = g .held u h;
-          kept = kept-then (st .kept) (g .kept);
-          off = λ q. cc;
-        }
-      where
-        u : List ℕ
-        u = part w high (cells ks)
-
-        h : Held ks u (p .s) (p .t) a b w′
-        h = rw (es, et) (st .held)
+    h : Held ks u (p .s) (p .t) a b w′
+    h = rw (es, et) (st .held)

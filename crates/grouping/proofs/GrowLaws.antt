@@ -11,9 +11,9 @@ use Rattle.rules.specs.Cell.{Positive, cells, present, has, insert, singleton, 
 use Rattle.rules.specs.Stage.{Grouping, none, sets, count, tryJoin, addCondition, grow}
 use Rattle.laws.proofs.LoopLaws.{grow-next}
 use Rattle.tables.specs.Part.{part, Laid}
-use Rattle.pairs.specs.Joining.{joins, admits}
+use Rattle.grouping.specs.Joining.{joins, admits}
 use Rattle.grouping.specs.Growing.{Held, Space, Tried, Grows, inOrder}
-use Rattle.pairs.proofs.JoiningLaws.{admits-joins, joins-turn}
+use Rattle.grouping.proofs.JoiningLaws.{admits-joins, joins-turn}
 use Rattle.grouping.proofs.KeptLaws.{kept-self, kept-then, kept-turn, kept-laid, kept-part, held-turn, held-add, turn-space}
 
 -- an addition that is made, and one that is not

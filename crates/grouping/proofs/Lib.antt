@@ -1,4 +1,5 @@
 -- What several proofs use.
+pub mod JoiningLaws
 pub mod KeptLaws
 pub mod GrowLaws
 pub mod KeepsLaws

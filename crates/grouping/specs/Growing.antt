@@ -6,12 +6,10 @@ use mathlib.Core.List.{List}
 use lib.ListN.{length}
 use Rattle.rules.specs.Bytes.{at, numbersFrom}
 use Rattle.rules.specs.Cell.{cells, present, insert, singleton, leastOver}
-use Rattle.rules.specs.Stage.{Grouping, none, sets, tryJoin, grouping}
+use Rattle.rules.specs.Stage.{Grouping, sets, tryJoin, firstPair, grouping}
 use Rattle.tables.specs.Part.{part, Laid, Shaped, Two}
-use Rattle.pairs.specs.Joining.{joins, joinsAt, admits}
+use Rattle.grouping.specs.Joining.{joins, joinsAt, admits}
 use Rattle.grouping.specs.declared.Sets.{Sets}
-use Rattle.grouping.specs.declared.Found.{Found}
-use Rattle.grouping.specs.declared.Found.the-variants.{Nothing, Sets as Some}
 
 abbrev pub setsOf : Sets → Grouping
 setsOf p = sets (p .s) (p .t)
@@ -55,17 +53,14 @@ pub record Grows (w ks : List ℕ) (low a b s t : ℕ) (to : (ℕ → ℕ → Bo
 abbrev pub inOrder : List ℕ → ℕ → ℕ → ℕ → (ℕ → ℕ → Bool) → Grouping
 inOrder ks i s t js = tryJoin (present ks) js (insert s i) t (tryJoin (present ks) js s (insert t i) (sets s t))
 
-abbrev pub foundSets : Found → Grouping
-foundSets Nothing = none
-foundSets (Some p) = setsOf p
+-- i and j are the first pair of the places' conditions that joins
+pub record First (joins : ℕ → ℕ → Bool) (ks : List ℕ) (i j : ℕ) : Type 0 where
+  pub rising : i < j
+  pub last : j < 8
+  pub is : sets (singleton i) (singleton j) ≡ firstPair (present ks) joins (numbersFrom 0 8)
 
-abbrev pub FoundHeld : List ℕ → List ℕ → ℕ → ℕ → List ℕ → Found → Type 0
-FoundHeld ks u a b w Nothing = Unit {0}
-FoundHeld ks u a b w (Some p) = Held ks u (p .s) (p .t) a b w
-
--- the grouping under the limits at low and at high, with its tables at a and b; where there is none, nothing is written
-pub record Grouped (w ks : List ℕ) (low high a b : ℕ) (r : Found) (w′ : List ℕ) : Type 0 where
-  pub is : foundSets r ≡ grouping (present ks) (joinsAt ks w low high) (numbersFrom 0 8)
-  pub held : FoundHeld ks (part w high (cells ks)) a b w′ r
+-- the grouping under the limits at low and at high, with its tables at a and b
+pub record Grouped (w ks : List ℕ) (low high a b : ℕ) (r : Sets) (w′ : List ℕ) : Type 0 where
+  pub is : setsOf r ≡ grouping (present ks) (joinsAt ks w low high) (numbersFrom 0 8)
+  pub held : Held ks (part w high (cells ks)) (r .s) (r .t) a b w′
   pub kept : Kept w a b (cells ks) w′
-  pub off : r ≡ Nothing → w′ ≡ w

@@ -1,2 +1,3 @@
 -- What the contracts of `grouping` cite.
+pub mod Joining
 pub mod Growing

@@ -1,14 +1,15 @@
-// From the limits of a stage to the sets of a max join. The tables are parts of one buffer. For a
-// min join the caller lends the limits exchanged.
+// From the first pair that joins under the limits of a stage to the sets of a max join. The tables are parts of one
+// buffer. For a min join the caller lends the limits exchanged.
 pub mod growing;
+pub mod joins;
 
-use pairs::Pair;
 use rules::PLACES;
 ghost use Prim.Native.Nat.{_+_};
 ghost use mathlib.Core.Path.{_≡_};
 ghost use Rattle.rules.specs.Cell.{cells};
 ghost use Rattle.rules.specs.Stage.{difference, keepsMax};
-ghost use Rattle.grouping.specs.Growing.{Space, Grouped};
+ghost use Rattle.grouping.specs.Joining.{joinsAt};
+ghost use Rattle.grouping.specs.Growing.{Space, First, Grouped};
 
 // The sets of a join.
 pub struct Sets {
@@ -16,27 +17,18 @@ pub struct Sets {
     pub t: u8,
 }
 
-// What a search for a join ends with.
-pub enum Found {
-    Nothing,
-    Sets(Sets),
-}
-
-// The grouping under the limits of n cells at low and at high. Where sets are found, the least upper grades over
-// t stand behind the upper limits and those over s in their place; else every byte is as it was.
-pub fn group(w: &mut [u8], ks: [u8; PLACES], n: usize, low: usize, high: usize) -> Found
-    requires { ⌜ (n ≡ cells ks) × Space (now w) ks low (high + n) high ⌝ }
+// The grouping that grows from the first pair that joins, i and j, under the limits of n cells at low and at high. The least upper
+// grades over t stand behind the upper limits then, and those over s in their place.
+pub fn group(w: &mut [u8], ks: [u8; PLACES], n: usize, i: usize, j: usize, low: usize, high: usize) -> Sets
+    requires { ⌜ (n ≡ cells ks) × Space (now w) ks low (high + n) high × First (joinsAt ks (now w) low high) ks i j ⌝ }
     ensures { λ r. ⌜ Grouped (now (w .entry)) ks low high (high + n) high r (now (w .exit)) ⌝ }
 {
-    let Pair::Found(i, j) = pairs::first_pair(w, ks, n, low, high) else {
-        return Found::Nothing;
-    };
     growing::start_sets(w, ks, i, j, n, high);
     let first = Sets {
         s: places::sets::singleton(i),
         t: places::sets::singleton(j),
     };
-    Found::Sets(growing::grow(w, ks, n, first, low, high + n, high))
+    growing::grow(w, ks, n, first, low, high + n, high)
 }
 
 // How far apart two counts are.

@@ -1,4 +1,4 @@
--- Tests of joins at every cell, and the rules that they decide.
+-- The test of an addition at every cell, and the join that it decides.
 use Prim.Native.Nat.{ℕ, _+_, _<_, max}
 use mathlib.Core.Path.{_≡_, sym, _∙_, ap, ap₂}
 use mathlib.Core.Bool.{Bool, true, false}
@@ -15,35 +15,20 @@ use Rattle.lines.specs.declared.Along.{Along}
 use Rattle.tables.proofs.PartLaws.{part-at}
 use Rattle.laws.proofs.TableLaws.{all-same, all-false}
 use Rattle.tables.proofs.ScanLaws.{all-passed}
-use Rattle.pairs.specs.Joining.{joins, joinsAt, admits}
+use Rattle.grouping.specs.Joining.{joins, admits}
 use Rattle.lines.proofs.AlongLaws.{Walks, walks-least}
 
--- the tests at every cell, under the rules' definitions: of the pair i, j, and of an addition of i
-abbrev pub pairCell : List ℕ → List ℕ → ℕ → ℕ → ℕ → ℕ → ℕ → Bool
-pairCell w ks i j low high c = leb (at (part w low (cells ks)) c) (max (at (leastOver ks (singleton j) (part w high (cells ks))) c) (at (leastOver ks (singleton i) (part w high (cells ks))) c))
-
+-- the test of an addition of i at a cell, under the rules' definitions
 abbrev pub addCell : List ℕ → List ℕ → ℕ → ℕ → ℕ → ℕ → ℕ → Bool
 addCell w ks i low keep grow c = leb (at (part w low (cells ks)) c) (max (at (part w keep (cells ks)) c) (at (leastOver ks (singleton i) (part w grow (cells ks))) c))
 
-module _ (w ks : List ℕ) (i j low high : ℕ) where
-  -- what a walk along both conditions finds at a cell
-  pub pair-at : {c : ℕ} {on on′ : Along} → Shaped ks → Walks ks i c on → Walks ks j c on′ → c < cells ks
-      → leb (at w (low + c)) (max (leastOn w high c on′) (leastOn w high c on)) ≡ pairCell w ks i j low high c
-  pair-at {c} shaped x y h = ap₂ leb (sym (part-at w low (cells ks) c h)) (ap₂ max (walks-least shaped y w high h) (walks-least shaped x w high h))
-
-  pub pair-passed : {c : ℕ} → c ≡ cells ks → ((k : ℕ) → k < c → pairCell w ks i j low high k ≡ true) → true ≡ joinsAt ks w low high (singleton i) (singleton j)
-  unfolding joins
-  pair-passed e h = sym (all-passed (cells ks) (pairCell w ks i j low high) e h)
-
-  pub pair-failed : (k : ℕ) → k < cells ks → pairCell w ks i j low high k ≡ false → false ≡ joinsAt ks w low high (singleton i) (singleton j)
-  unfolding joins
-  pair-failed k h e = sym (all-false (cells ks) (pairCell w ks i j low high) k h e)
-
 module _ (w ks : List ℕ) (i low keep grow : ℕ) where
+  -- what a walk along the condition finds at a cell
   pub add-at : {c : ℕ} {on : Along} → Shaped ks → Walks ks i c on → c < cells ks
       → leb (at w (low + c)) (max (at w (keep + c)) (leastOn w grow c on)) ≡ addCell w ks i low keep grow c
   add-at {c} shaped x h = ap₂ leb (sym (part-at w low (cells ks) c h)) (ap₂ max (sym (part-at w keep (cells ks) c h)) (walks-least shaped x w grow h))
 
+  -- every cell passes, or one fails
   pub add-passed : {c : ℕ} → c ≡ cells ks → ((k : ℕ) → k < c → addCell w ks i low keep grow k ≡ true)
       → true ≡ admits ks i (part w low (cells ks)) (part w keep (cells ks)) (part w grow (cells ks))
   unfolding admits

@@ -1,4 +1,4 @@
--- `pairs::joins::may_add` meets its contract.
+-- `grouping::joins::may_add` meets its contract.
 use mathlib.Core.Path.{sym, _∙_}
 use mathlib.Core.List.{List}
 use Prim.Native.Nat.{ℕ, _-_, _≤_, _<_}
@@ -6,10 +6,10 @@ use native.Mathlib.Omega.{arith}
 use Rattle.rules.specs.Cell.{cells}
 use Rattle.lines.proofs.AlongLaws.{walks-line, walks-room, Begins, begins, Scan, scan-none, scan-more}
 use Rattle.lines.proofs.BelowLaws.{test-refuses, test-passes}
-use Rattle.pairs.proofs.JoiningLaws.{addCell, add-at, add-passed, add-failed}
+use Rattle.grouping.proofs.JoiningLaws.{addCell, add-at, add-passed, add-failed}
 use borrow.Author.Needs.{needs}
-use Rattle.pairs.proofs.joins.may_add.Statement.{statement}
-use Rattle.pairs.proofs.joins.may_add.Tie as tie
+use Rattle.grouping.proofs.joins.may_add.Statement.{statement}
+use Rattle.grouping.proofs.joins.may_add.Tie as tie
 
 -- whatever places the step is of
 abbrev Inv-loop : tie.InvT-loop

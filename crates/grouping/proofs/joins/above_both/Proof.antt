@@ -1,12 +1,12 @@
--- `pairs::joins::above_both` meets its contract.
+-- `grouping::joins::above_both` meets its contract.
 use mathlib.Core.Path.{sym, _∙_, ap}
 use mathlib.Core.Bool.{not}
 use borrow.Author.Tests.{le-leb, lt-leb}
 use borrow.Author.Needs.{needs}
 use Rattle.lines.specs.Along.{leastOn}
 use Rattle.lines.proofs.BelowLaws.{above-left, other-right}
-use Rattle.pairs.proofs.joins.above_both.Statement.{statement}
-use Rattle.pairs.proofs.joins.above_both.Tie as tie
+use Rattle.grouping.proofs.joins.above_both.Statement.{statement}
+use Rattle.grouping.proofs.joins.above_both.Tie as tie
 
 returns : tie.Need-returns
 returns c =

@@ -1,3 +1,0 @@
--- What several proofs use.
-pub mod JoiningLaws
-pub mod SearchLaws

@@ -1,3 +1,0 @@
--- What the contracts of `pairs` cite.
-pub mod Joining
-pub mod Searching
