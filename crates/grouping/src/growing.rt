@@ -1,7 +1,7 @@
 // Two sets that grow. The table at a holds the least upper grades over t, the table at b those over
 // s, at every step.
-use crate::joins;
 use crate::Sets;
+use crate::joins;
 use places::sets;
 use rules::PLACES;
 ghost use Prim.Native.Nat.{_+_, _*_, _≤_, _<_};

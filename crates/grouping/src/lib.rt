@@ -19,7 +19,15 @@ pub struct Sets {
 
 // The grouping that grows from the first pair that joins, i and j, under the limits of n cells at low and at high. The least upper
 // grades over t stand behind the upper limits then, and those over s in their place.
-pub fn group(w: &mut [u8], ks: [u8; PLACES], n: usize, i: usize, j: usize, low: usize, high: usize) -> Sets
+pub fn group(
+    w: &mut [u8],
+    ks: [u8; PLACES],
+    n: usize,
+    i: usize,
+    j: usize,
+    low: usize,
+    high: usize,
+) -> Sets
     requires { ⌜ (n ≡ cells ks) × Space (now w) ks low (high + n) high × First (joinsAt ks (now w) low high) ks i j ⌝ }
     ensures { λ r. ⌜ Grouped (now (w .entry)) ks low high (high + n) high r (now (w .exit)) ⌝ }
 {

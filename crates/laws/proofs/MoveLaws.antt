@@ -1,9 +1,9 @@
 -- The cell map between places: from the lowest places on, by runs of cells, and from one cell to the next.
 use Prim.Native.Nat.{ℕ, zero, suc, _+_, _-_, _*_, _/_, _%_, _≤_, _<_}
-use mathlib.Core.Path.{_≡_, refl, sym, _∙_, ap, ap₂}
+use mathlib.Core.Path.{_≡_, refl, sym, _∙_, ap, ap₂, subst}
 use mathlib.Core.Bool.{Bool, true, false}
 use mathlib.Core.List.{List, [], _∷_}
-use native.Mathlib.Nat.{zero-add, add-assoc, one-mul, mul-zero, mul-comm, mul-assoc, mul-add, mul-suc, le-refl, mod-lt, mod-one, zero-mod, zero-div, mod-eq-of-lt, mod-add-div, not-suc-le-zero, le-of-suc-le-suc}
+use native.Mathlib.Nat.{zero-add, add-assoc, one-mul, mul-zero, mul-comm, mul-assoc, mul-add, mul-suc, le-refl, mod-lt, mod-one, zero-mod, zero-div, div-one, mod-eq-of-lt, mod-add-div, not-suc-le-zero, le-of-suc-le-suc}
 use native.Mathlib.Numerals.{add-one}
 use native.Mathlib.Omega.{arith}
 use lib.ListN.{length, getD, drop}
@@ -162,3 +162,14 @@ module _ {b a : List ℕ} {goal i rest at stp : ℕ} (x : Turns b a goal i rest 
               let e : rest + 1 ≡ 0 + getD b i 0 * (q + 1) = omega (arith, m, mod-add-div rest (getD b i 0), mod-lt rest p) in
               omega (arith, x .goal-is, place-on b a i stp hb ha (rest + 1) 0 (q + 1) p e, ap (λ (y : ℕ). y * stp) (zero-mod (getD a i 0)));
         }
+
+    -- a place with no condition has one value only: nothing is taken, and the rest stays
+    pub turns-skip : getD b i 0 ≤ 1 → Turns b a goal (i + 1) rest at (stp * getD a i 0)
+    turns-skip h =
+        let one : getD b i 0 ≡ 1 = omega arith in
+        let first : v ≡ 0 = omega (arith, mod-lt rest p) in
+        let whole : q ≡ rest = ap (λ (k : ℕ). rest / k) one ∙ div-one rest in
+        let nothing : v % getD a i 0 * stp ≡ 0 * stp = ap (λ (y : ℕ). y % getD a i 0 * stp) first ∙ ap (λ (y : ℕ). y * stp) (zero-mod (getD a i 0)) in
+        let same : at - v % getD a i 0 * stp ≡ at = omega (arith, nothing) in
+        subst (λ (y : ℕ). Turns b a goal (i + 1) y at (stp * getD a i 0)) whole
+        (subst (λ (y : ℕ). Turns b a goal (i + 1) q y (stp * getD a i 0)) same (turns-more (omega arith)))

@@ -3,7 +3,7 @@ use Prim.Native.Nat.{ℕ, _+_, _-_, _*_, _≤_, _<_, max}
 use mathlib.Core.Path.{_≡_, refl, sym, _∙_, ap, subst}
 use mathlib.Core.Bool.{Bool, true, false, not}
 use mathlib.Core.List.{List}
-use native.Mathlib.Nat.{le-trans, le-max-left, le-max-right, max-le, max-comm}
+use native.Mathlib.Nat.{le-trans, le-max-left, le-max-right, max-le}
 use native.Mathlib.Omega.{arith}
 use lib.Dec.{leb}
 use borrow.Author.Tests.{leb-true, leb-false, le-leb, lt-leb, not-true, not-false}
@@ -31,24 +31,21 @@ test-refuses {r} {b} e t = not-true b (sym e ∙ t)
 pub test-passes : {r b : Bool} → r ≡ not b → r ≡ false → b ≡ true
 test-passes {r} {b} e t = not-false b (sym e ∙ t)
 
--- a grade that is not above one of two is not above the greater; if it is, the other decides
-pub above-right : (g x y : ℕ) → leb g y ≡ true → leb g (max x y) ≡ true
-above-right g x y h = le-leb g _ (le-trans (leb-true g y h) (le-max-right x y))
-
+-- a grade that is not above one of two is not above the greater; if it is above the first, the second decides
 pub above-left : (g x y : ℕ) → leb g x ≡ true → leb g (max x y) ≡ true
 above-left g x y h = le-leb g _ (le-trans (leb-true g x h) (le-max-left x y))
 
-pub other-left : (g x y : ℕ) → leb g y ≡ false → leb g (max x y) ≡ leb g x
-other-left g x y h =
-    go (leb g x) refl
-  where
-    go : (b : Bool) → leb g x ≡ b → leb g (max x y) ≡ leb g x
-    go true e = above-left g x y e ∙ sym e
-    go false e =
-        let p = leb-false g x e in
-        let q = leb-false g y h in
-        let most : max x y ≤ g - 1 = max-le (omega arith) (omega arith) in
-        lt-leb g _ (omega arith) ∙ sym e
+above-right : (g x y : ℕ) → leb g y ≡ true → leb g (max x y) ≡ true
+above-right g x y h = le-leb g _ (le-trans (leb-true g y h) (le-max-right x y))
 
 pub other-right : (g x y : ℕ) → leb g x ≡ false → leb g (max x y) ≡ leb g y
-other-right g x y h = ap (leb g) (max-comm x y) ∙ other-left g y x h
+other-right g x y h =
+    go (leb g y) refl
+  where
+    go : (b : Bool) → leb g y ≡ b → leb g (max x y) ≡ leb g y
+    go true e = above-right g x y e ∙ sym e
+    go false e =
+        let p = leb-false g x h in
+        let q = leb-false g y e in
+        let most : max x y ≤ g - 1 = max-le (omega arith) (omega arith) in
+        lt-leb g _ (omega arith) ∙ sym e

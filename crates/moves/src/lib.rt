@@ -71,7 +71,7 @@ fn other_run(a: [u8; PLACES], b: [u8; PLACES]) -> Run
 }
 
 // From cell d of a, where run r of b begins, to the one where the next run does. Only the conditions whose values
-// change are looked at.
+// change are looked at, and a place of b that has none is passed by, since a division is dear.
 fn next(a: [u8; PLACES], b: [u8; PLACES], from: usize, r: usize, d: usize, first: usize) -> usize
     requires { ⌜ Shaped a × Shaped b × (from ≤ 8) × (first ≡ step a from) × (d ≡ first * remapFrom from b a r) ⌝ }
     ensures { λ e. ⌜ e ≡ first * remapFrom from b a (r + 1) ⌝ }
@@ -82,12 +82,14 @@ fn next(a: [u8; PLACES], b: [u8; PLACES], from: usize, r: usize, d: usize, first
     for i in from..PLACES {
         let k = b[i] as usize;
         let l = a[i] as usize;
-        let value = rest % k;
-        at = at - value % l * step;
-        if value + 1 < k {
-            return at + (value + 1) % l * step;
+        if 1 < k {
+            let value = rest % k;
+            at = at - value % l * step;
+            if value + 1 < k {
+                return at + (value + 1) % l * step;
+            }
+            rest = rest / k;
         }
-        rest = rest / k;
         step = step * l;
     }
     at

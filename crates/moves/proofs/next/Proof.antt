@@ -1,12 +1,13 @@
 -- `moves::next` meets its contract.
-use Prim.Native.Nat.{ℕ, _+_, _-_, _*_, _/_, _%_, _≤_, _<_}
+use Prim.Native.Nat.{ℕ, _+_, _-_, _*_, _%_, _≤_, _<_}
 use mathlib.Core.Path.{_≡_, refl}
+use mathlib.Core.Logic.{⊎-elim}
 use native.Mathlib.Nat.{mod-lt}
 use native.Mathlib.Omega.{arith}
 use borrow.Author.Needs.{needs}
 use lib.ListN.{getD}
 use Rattle.laws.proofs.LoopLaws.{step-le}
-use Rattle.laws.proofs.MoveLaws.{Turns, turns-low, turns-end, turns-take, turns-stop, turns-more}
+use Rattle.laws.proofs.MoveLaws.{Turns, turns-low, turns-end, turns-take, turns-stop, turns-more, turns-skip}
 use Rattle.laws.proofs.NumberLaws.{card-positive}
 use Rattle.moves.specs.Move.{remapFrom}
 use Rattle.moves.proofs.next.Statement.{statement}
@@ -43,10 +44,10 @@ positive-a : (c : lts.In-loop reads.Pre reads.Post Inv-loop μ-loop) → 0 < get
 positive-a c = let b = c .before .before in card-positive (b .args .t1) (c .before .loop .i) (omega arith) (b .pre .0 .some)
 
 rem-value : tie.Need-rem-value Inv-loop μ-loop
-rem-value c = positive c
+rem-value c = positive (c .before)
 
 rem-at : tie.Need-rem-at Inv-loop μ-loop
-rem-at c = positive-a c
+rem-at c = positive-a (c .before)
 
 -- what the place has added
 taken : (c : lts.In-loop reads.Pre reads.Post Inv-loop μ-loop)
@@ -54,50 +55,59 @@ taken : (c : lts.In-loop reads.Pre reads.Post Inv-loop μ-loop)
 taken c = turns-take (c .before .loop .inv .1) (omega arith) (omega arith) (positive c)
 
 mul-at : tie.Need-mul-at Inv-loop μ-loop
-mul-at c = let p = c .before .before .pre .0 in let few = p .few in omega (arith, taken c, turns-low (c .before .loop .inv .1) (p .some))
+mul-at c =
+    let p = c .before .before .before .pre .0 in
+    let few = p .few in
+    omega (arith, taken (c .before), turns-low (c .before .before .loop .inv .1) (p .some))
 
 sub-at : tie.Need-sub-at Inv-loop μ-loop
-sub-at c = taken c
+sub-at c = taken (c .before)
 
-add-if1 : tie.Need-add-if1 Inv-loop μ-loop
-add-if1 c = omega (arith, cast-k c, mod-lt (c .before .loop .rest) (positive c))
+add-if2 : tie.Need-add-if2 Inv-loop μ-loop
+add-if2 c = omega (arith, cast-k (c .before), mod-lt (c .before .before .loop .rest) (positive (c .before)))
 
 -- the next cell's number
 abbrev goal : lts.Start reads.Pre reads.Post Inv-loop μ-loop → ℕ
 goal c = c .args .first * remapFrom (c .args .from) (c .args .t2) (c .args .t1) (c .args .r + 1)
 
-low : (c : lts.Then1 reads.Pre reads.Post Inv-loop μ-loop) → goal (c .before .before .before) < 1024
-low c = let p = c .before .before .before .pre .0 in let few = p .few in omega (arith, turns-low (c .before .before .loop .inv .1) (p .some))
+low : (c : lts.In-loop reads.Pre reads.Post Inv-loop μ-loop) → goal (c .before .before) < 1024
+low c = let p = c .before .before .pre .0 in let few = p .few in omega (arith, turns-low (c .before .loop .inv .1) (p .some))
 
 -- the place has a next value
-stops : (c : lts.Then1 reads.Pre reads.Post Inv-loop μ-loop)
-    → let s = c .before .before .before .args in let l = c .before .before .loop in let k = getD (s .t2) (l .i) 0 in let m = getD (s .t1) (l .i) 0 in
-    l .at - l .rest % k % m * l .step + (l .rest % k + 1) % m * l .step ≡ goal (c .before .before .before)
-stops c = turns-stop (c .before .before .loop .inv .1) (omega arith) (omega arith) (positive (c .before)) (c .if1 .taken)
+stops : (c : lts.Then2 reads.Pre reads.Post Inv-loop μ-loop)
+    → let s = c .before .before .before .before .args in let l = c .before .before .before .loop in
+    let k = getD (s .t2) (l .i) 0 in let m = getD (s .t1) (l .i) 0 in
+    l .at - l .rest % k % m * l .step + (l .rest % k + 1) % m * l .step ≡ goal (c .before .before .before .before)
+stops c = turns-stop (c .before .before .before .loop .inv .1) (omega arith) (omega arith) (positive (c .before .before)) (c .if2 .taken)
 
 add-result : tie.Need-add-result Inv-loop μ-loop
-add-result c = add-if1 (c .before)
+add-result c = add-if2 (c .before)
 
 rem-result : tie.Need-rem-result Inv-loop μ-loop
-rem-result c = positive-a (c .before)
+rem-result c = positive-a (c .before .before)
 
 mul-result : tie.Need-mul-result Inv-loop μ-loop
-mul-result c = omega (arith, stops c, low c)
+mul-result c = omega (arith, stops c, low (c .before .before))
 
 add-result-2 : tie.Need-add-result-2 Inv-loop μ-loop
-add-result-2 c = omega (arith, stops c, low c)
+add-result-2 c = omega (arith, stops c, low (c .before .before))
 
 returns : tie.Need-returns Inv-loop μ-loop
 returns c = stops c
 
--- the place turns to its first value
-more : (c : lts.Else1 reads.Pre reads.Post Inv-loop μ-loop)
-    → let s = c .before .before .before .args in let l = c .before .before .loop in let k = getD (s .t2) (l .i) 0 in let m = getD (s .t1) (l .i) 0 in
-    Turns (s .t2) (s .t1) (goal (c .before .before .before)) (l .i + 1) (l .rest / k) (l .at - l .rest % k % m * l .step) (l .step * m)
-more c = turns-more (c .before .before .loop .inv .1) (omega arith) (omega arith) (positive (c .before)) (c .if1 .left)
-
 div-rest : tie.Need-div-rest Inv-loop μ-loop
-div-rest c = positive (c .before)
+div-rest c = positive (c .before .before)
+
+-- the place turns to its first value, or has no condition
+more : (c : lts.Joined1 reads.Pre reads.Post Inv-loop μ-loop)
+    → let s = c .before .before .before .args in let l = c .before .before .loop in
+    Turns (s .t2) (s .t1) (goal (c .before .before .before)) (l .i + 1) (c .if1 .rest) (c .if1 .at) (l .step * getD (s .t1) (l .i) 0)
+more c =
+    let t = c .before in
+    let x = t .before .loop .inv .1 in
+    ⊎-elim (λ y. rw (y .2, y .3) (turns-more x (omega arith) (omega arith) (positive t) (y .1 .left)))
+    (λ y. rw (y .1, y .2) (turns-skip x (omega arith) (omega arith) (positive t) (y .0 .left)))
+    (c .if1 .came)
 
 mul-step : tie.Need-mul-step Inv-loop μ-loop
 mul-step c =
@@ -132,7 +142,7 @@ next-spec =
     rem-at
     mul-at
     sub-at
-    add-if1
+    add-if2
     add-result
     rem-result
     mul-result
