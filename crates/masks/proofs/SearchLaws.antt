@@ -1,6 +1,6 @@
 -- The search for the first pair that joins: its loops' states over any test of pairs, and what they end with.
 use Prim.Native.Nat.{ℕ, _+_, _≤_, _<_}
-use mathlib.Core.Path.{_≡_, refl, sym, _∙_, ap, subst}
+use mathlib.Core.Path.{_≡_, refl, sym, _∙_, subst}
 use mathlib.Core.Bool.{Bool, true, false, not, _&&_}
 use mathlib.Core.List.{List}
 use mathlib.Core.Logic.{⊎-elim}
@@ -56,8 +56,8 @@ module _ {pair : ℕ → ℕ → Bool} where
       }
 
   -- no pair of i passes
-  outer-next : {found found′ : Pair} {i : ℕ} → Outer pair found i → found′ ≡ Nothing → i < 8
-      → ((k : ℕ) → i < k → k < 8 → T (pair i k) → ⊥) → Outer pair found′ (i + 1)
+  outer-next : {found r : Pair} {i : ℕ} → Outer pair found i → r ≡ Nothing → i < 8
+      → ((k : ℕ) → i < k → k < 8 → T (pair i k) → ⊥) → Outer pair r (i + 1)
   outer-next {i = i} o e lt refuse =
       record {
         none = e;
@@ -67,12 +67,14 @@ module _ {pair : ℕ → ℕ → Bool} where
             (let le : a ≤ i = omega arith in eq-or-lt-of-le le);
       }
 
-  pub outer-more : {found found′ : Pair} {i j : ℕ} → Outer pair found i → Inner pair found′ i j → 8 ≤ j → i < 8 → Outer pair found′ (i + 1)
-  outer-more o n h lt = outer-next o (n .none) lt (λ k l u. n .here k l (omega arith))
+  pub outer-more : {found found′ r : Pair} {i j : ℕ}
+      → Outer pair found i → Inner pair found′ i j → 8 ≤ j → i < 8 → r ≡ found′ → Outer pair r (i + 1)
+  outer-more o n h lt e = outer-next o (e ∙ n .none) lt (λ k l u. n .here k l (omega arith))
 
   -- a condition that is not there is in no pair
-  pub outer-skip : {found : Pair} {i : ℕ} → Outer pair found i → i < 8 → ((k : ℕ) → pair i k ≡ false) → Outer pair found (i + 1)
-  outer-skip o lt e = outer-next o (o .none) lt (λ k l u y. subst T (e k) y)
+  pub outer-skip : {found r : Pair} {i : ℕ} → Outer pair found i → i < 8 → ((k : ℕ) → pair i k ≡ false) → r ≡ found
+      → Outer pair r (i + 1)
+  outer-skip o lt refuse e = outer-next o (e ∙ o .none) lt (λ k l u y. subst T (refuse k) y)
 
   -- what the search ends with, where the test is that of conditions and of joins
   module _ (is : ℕ → Bool) (joins : ℕ → ℕ → Bool)

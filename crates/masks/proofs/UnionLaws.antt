@@ -32,7 +32,8 @@ unfolding noneOf
 union-none t q = record { has-is = λ j. failed (has 0 j) (has-none j) }
 
 -- one mask y more, that passes the test or not
-pub union-more : {x : ℕ} {t : List ℕ} {q : ℕ → Bool} {s y r : ℕ} → Union x t q s → at t x ≡ y → r ≡ pick (q y) y 0 → Union (x + 1) t q (bitOr s r)
+pub union-more : {x : ℕ} {t : List ℕ} {q : ℕ → Bool} {s y r : ℕ}
+    → Union x t q s → at t x ≡ y → r ≡ pick (q y) y 0 → Union (x + 1) t q (bitOr s r)
 unfolding noneOf
 union-more {x} {t} {q} {s} {y} {r} u f e = rw (add-one x) (record { has-is = more })
   where
@@ -56,8 +57,9 @@ pub union-all : {n x : ℕ} {t : List ℕ} {q : ℕ → Bool} {s : ℕ} → x �
 union-all {t = t} {q = q} {s = s} e u = subst (λ (k : ℕ). Union k t q s) e u
 
 -- none of the masks that pass the test has a condition exactly where the union does not
-pub none-with : {n : ℕ} {t : List ℕ} {q : ℕ → Bool} {s : ℕ} → Union n t q s → (j : ℕ) → noneOf n t (λ x. q x && has x j) ≡ not (has s j)
-none-with {s = s} u j = sym (twice _) ∙ ap not (sym (u .has-is j))
+pub none-with : {n : ℕ} {t : List ℕ} {q : ℕ → Bool} {s : ℕ} → Union n t q s
+    → (j : ℕ) → noneOf n t (λ x. q x && has x j) ≡ not (has s j)
+none-with u j = sym (twice _) ∙ ap not (sym (u .has-is j))
   where
     twice : (b : Bool) → not (not b) ≡ b
     twice true = refl

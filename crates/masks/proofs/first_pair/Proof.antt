@@ -1,13 +1,12 @@
 -- `masks::first_pair` meets its contract.
-use mathlib.Core.Path.{sym, subst, _∙_}
+use mathlib.Core.Path.{_∙_}
 use mathlib.Core.List.{List}
 use mathlib.Core.Logic.{⊎-elim}
-use Prim.Native.Nat.{ℕ, _+_, _-_}
+use Prim.Native.Nat.{ℕ, _-_}
 use native.Mathlib.Omega.{arith}
 use borrow.Author.Needs.{needs}
 use Rattle.laws.proofs.LoopLaws.{is-absent, is-present}
 use Rattle.tables.specs.Part.{part}
-use Rattle.masks.specs.declared.Pair.{Pair}
 use Rattle.masks.proofs.SearchLaws.{Outer, Inner, outer-start, inner-start, inner-more, outer-more, outer-skip, admitted, absent-first, absent-second, both-there, found-none, found-pair}
 use Rattle.masks.proofs.first_pair.Statement.{statement}
 use Rattle.masks.proofs.first_pair.Tie as tie
@@ -79,14 +78,10 @@ search-again c =
     let t = part (a .w .now) (a .a) (a .n) in
     let o = c .before .before .search in
     let h = c .before .search-test .taken in
-    ⊎-elim
+    ⊎-elim (λ x. outer-more (o .inv) (x .2 .inv) (omega (arith, x .3 .left)) h (x .4))
     (λ x.
-    subst (λ (f : Pair). Outer (admitted (a .t2) t) f (o .i + 1)) (sym (x .4))
-    (outer-more (o .inv) (x .2 .inv) (omega (arith, x .3 .left)) h))
-    (λ x.
-    subst (λ (f : Pair). Outer (admitted (a .t2) t) f (o .i + 1)) (sym (x .1))
-    (outer-skip (o .inv) h
-    (λ k. absent-first (a .t2) t (o .i) k (is-absent (a .t2) (o .i) (search needs) (omega (arith, x .0 .left))))))
+    outer-skip (o .inv) h
+    (λ k. absent-first (a .t2) t (o .i) k (is-absent (a .t2) (o .i) (search needs) (omega (arith, x .0 .left)))) (x .1))
     (c .if1 .came)
 
 returns : tie.Need-returns Inv-loop μ-loop Inv-search μ-search
