@@ -48,6 +48,7 @@ full-from ks k s h e i p =
     let split : (x : ℕ) → has x i ≡ has (x / 2 ^ k) (i - k) = λ x. ap (has x) (sym i-is) ∙ has-from k (i - k) x in
     subst T (split 255 ∙ ap (λ (x : ℕ). has x (i - k)) (sym (eqb-true _ _ e)) ∙ sym (split s)) (all-at 8 (has 255) tt i (h i p .1))
 
+-- where a scan has found one, some mask is full
 pub some-full : {P : Type 0} (ks : List ℕ) (n : ℕ) (t : List ℕ) (k : ℕ) → ((i : ℕ) → T (present ks i) → (k ≤ i) × (i < 8))
     → someFull n t k ≡ true → ((c : ℕ) → c < n → Full ks (at t c) → P) → P
 unfolding noneOf

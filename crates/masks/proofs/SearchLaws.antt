@@ -37,6 +37,7 @@ module _ (pair : ℕ → ℕ → Bool) where
     pub here : (k : ℕ) → i < k → k < j → T (pair i k) → ⊥
 
 module _ {pair : ℕ → ℕ → Bool} where
+  -- where the loops start, and a pair that has not passed
   pub outer-start : Outer pair Nothing 0
   outer-start = record { none = refl; within = omega arith; below = λ h k l. absurd (omega arith) }
 
@@ -67,6 +68,7 @@ module _ {pair : ℕ → ℕ → Bool} where
             (let le : a ≤ i = omega arith in eq-or-lt-of-le le);
       }
 
+  -- the inner loop is through
   pub outer-more : {found found′ r : Pair} {i j : ℕ}
       → Outer pair found i → Inner pair found′ i j → 8 ≤ j → i < 8 → r ≡ found′ → Outer pair r (i + 1)
   outer-more o n h lt e = outer-next o (e ∙ n .none) lt (λ k l u. n .here k l (omega arith))
@@ -95,6 +97,7 @@ unfoldable pub admitted : List ℕ → List ℕ → ℕ → ℕ → Bool
 admitted ks t i j = present ks i && (present ks j && noneBoth (cells ks) t i j)
 
 module _ (ks t : List ℕ) (i j : ℕ) where
+  -- a condition that is not there
   pub absent-first : present ks i ≡ false → admitted ks t i j ≡ false
   unfolding admitted
   absent-first e = rw e
@@ -122,6 +125,7 @@ module _ {ks t : List ℕ} where
       go true false e f = refl
       go true true e f = pair-joins op ks m l t i j b (passes e) (passes f)
 
+  -- the search has passed every pair, or found one
   pub found-none : {found : Pair} {i : ℕ} → Outer (admitted ks t) found i → 8 ≤ i → Searched ks t found
   found-none o h =
       subst (Searched ks t) (sym (o .none))
