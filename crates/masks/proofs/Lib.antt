@@ -2,3 +2,4 @@
 pub mod MaskLaws
 pub mod UnionLaws
 pub mod ScanLaws
+pub mod SearchLaws

@@ -45,10 +45,10 @@ has-from k d s = has-bit s (k + d) ∙ ap (λ (x : ℕ). eqb (x % 2) 1) (sym (sh
 full-from : (ks : List ℕ) (k s : ℕ) → ((i : ℕ) → T (present ks i) → (k ≤ i) × (i < 8)) → fullFrom k s ≡ true → Full ks s
 full-from ks k s h e i p =
     let i-is : k + (i - k) ≡ i = let le = h i p .0 in omega arith in
-    subst T
-    (ap (has 255) (sym i-is) ∙ has-from k (i - k) 255 ∙ ap (λ (x : ℕ). has x (i - k)) (sym (eqb-true _ _ e)) ∙ sym (has-from k (i - k) s) ∙ ap (has s) i-is)
-    (all-at 8 (has 255) tt i (h i p .1))
+    let split : (x : ℕ) → has x i ≡ has (x / 2 ^ k) (i - k) = λ x. ap (has x) (sym i-is) ∙ has-from k (i - k) x in
+    subst T (split 255 ∙ ap (λ (x : ℕ). has x (i - k)) (sym (eqb-true _ _ e)) ∙ sym (split s)) (all-at 8 (has 255) tt i (h i p .1))
 
+-- where a scan has found one, some mask is full
 pub some-full : {P : Type 0} (ks : List ℕ) (n : ℕ) (t : List ℕ) (k : ℕ) → ((i : ℕ) → T (present ks i) → (k ≤ i) × (i < 8))
     → someFull n t k ≡ true → ((c : ℕ) → c < n → Full ks (at t c) → P) → P
 unfolding noneOf

@@ -8,7 +8,6 @@ use native.Mathlib.Numerals.{add-one}
 use native.Mathlib.Omega.{arith}
 use lib.Bits.{bitOr, or-shr, or-mod}
 use lib.Dec.{T, eqb}
-use borrow.Author.Tests.{not-true}
 use Rattle.rules.specs.Bytes.{pick, at}
 use Rattle.rules.specs.Cell.{has}
 use Rattle.laws.proofs.SetLaws.{has-none}
@@ -33,7 +32,8 @@ unfolding noneOf
 union-none t q = record { has-is = λ j. failed (has 0 j) (has-none j) }
 
 -- one mask y more, that passes the test or not
-pub union-more : {x : ℕ} {t : List ℕ} {q : ℕ → Bool} {s y r : ℕ} → Union x t q s → at t x ≡ y → r ≡ pick (q y) y 0 → Union (x + 1) t q (bitOr s r)
+pub union-more : {x : ℕ} {t : List ℕ} {q : ℕ → Bool} {s y r : ℕ}
+    → Union x t q s → at t x ≡ y → r ≡ pick (q y) y 0 → Union (x + 1) t q (bitOr s r)
 unfolding noneOf
 union-more {x} {t} {q} {s} {y} {r} u f e = rw (add-one x) (record { has-is = more })
   where
@@ -56,6 +56,15 @@ union-more {x} {t} {q} {s} {y} {r} u f e = rw (add-one x) (record { has-is = mor
 pub union-all : {n x : ℕ} {t : List ℕ} {q : ℕ → Bool} {s : ℕ} → x ≡ n → Union x t q s → Union n t q s
 union-all {t = t} {q = q} {s = s} e u = subst (λ (k : ℕ). Union k t q s) e u
 
--- a condition that the union has, one mask has
+-- none of the masks that pass the test has a condition exactly where the union does not
+pub none-with : {n : ℕ} {t : List ℕ} {q : ℕ → Bool} {s : ℕ} → Union n t q s
+    → (j : ℕ) → noneOf n t (λ x. q x && has x j) ≡ not (has s j)
+none-with u j = sym (twice _) ∙ ap not (sym (u .has-is j))
+  where
+    twice : (b : Bool) → not (not b) ≡ b
+    twice true = refl
+    twice false = refl
+
+-- a condition that the union of all has, one mask has
 pub no-one-seen : {n : ℕ} {t : List ℕ} {s : ℕ} → Union n t every s → (i : ℕ) → T (has s i) → noneHas n t i ≡ false
-no-one-seen {s = s} u i h = not-true _ (sym (u .has-is i) ∙ passed (has s i) h)
+no-one-seen {s = s} u i h = none-with u i ∙ ap not (passed (has s i) h)

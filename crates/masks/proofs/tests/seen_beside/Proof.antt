@@ -38,7 +38,8 @@ loop-again : tie.Need-loop-again Inv-loop μ-loop
 loop-again c =
     let b = c .before .before .before .before .before .args in
     let l = c .before .before .before .loop in
-    (search needs, union-more (l .inv .1) (part-at (b .w .now) (b .a) (b .n) (l .x) (c .before .before .loop-test .taken)) (c .if-member .ensures))
+    let mask = part-at (b .w .now) (b .a) (b .n) (l .x) (c .before .before .loop-test .taken) in
+    (search needs, union-more (l .inv .1) mask (c .if-member .ensures))
 
 returns : tie.Need-returns Inv-loop μ-loop
 returns c = union-all (omega arith) (c .before .loop .inv .1)

@@ -33,7 +33,8 @@ returns : tie.Need-returns Inv-loop μ-loop
 returns c =
     let b = c .before .before .before .before .before .before .args in
     let l = c .before .before .before .before .loop in
-    sym (ap not (none-failed (b .w .now) (b .a) (b .n) (fullFrom (b .k)) (l .x) (omega arith) (sym (c .before .full .ensures) ∙ c .if1 .taken)))
+    let found = sym (c .before .full .ensures) ∙ c .if1 .taken in
+    sym (ap not (none-failed (b .w .now) (b .a) (b .n) (fullFrom (b .k)) (l .x) (omega arith) found))
 
 add-x : tie.Need-add-x Inv-loop μ-loop
 add-x c = search needs
