@@ -1,3 +1,4 @@
 -- What several proofs use.
 pub mod ExchangeLaws
 pub mod CofactorLaws
+pub mod KnownLaws
