@@ -2,3 +2,4 @@
 pub mod ExchangeLaws
 pub mod CofactorLaws
 pub mod KnownLaws
+pub mod SplitLaws
