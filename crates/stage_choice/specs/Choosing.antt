@@ -72,12 +72,12 @@ pub record LimitsLaid (gate : Gate) (m : ℕ) (ks : List ℕ) (n : ℕ) (w : Lis
 -- a grouping with its tables: the lower limits at low, uB behind them, and uA behind that
 pub record Tabled (gate : Gate) (m : ℕ) (x : Stage) (low : ℕ) (of : Sets) (w : List ℕ) : Type 0 where
   pub lows : part w low (cells (x .ks)) ≡ exchangeFor gate (x .ks) m (x .limits) .lower
-  pub held : Held (x .ks) (exchangeFor gate (x .ks) m (x .limits) .upper) (of .s) (of .t) (low + cells (x .ks) + cells (x .ks)) (low + cells (x .ks)) w
+  pub held : let n = cells (x .ks) in Held (x .ks) (exchangeFor gate (x .ks) m (x .limits) .upper) (of .s) (of .t) (low + n + n) (low + n) w
 
 -- the grouping for a gate of the stage at the front; where there is none, nothing was written
-pub record Sought (gate : Gate) (m : ℕ) (ks : List ℕ) (low : ℕ) (w : List ℕ) (r : Found) (w′ : List ℕ) : Type 0 where
+pub record Sought (gate : Gate) (m : ℕ) (ks w : List ℕ) (r : Found) (w′ : List ℕ) : Type 0 where
   pub is : foundSets r ≡ groups m (frontStage ks w) gate
-  pub tables : (of : Sets) → r ≡ Some of → Tabled gate m (frontStage ks w) low of w′
+  pub tables : (of : Sets) → r ≡ Some of → Tabled gate m (frontStage ks w) (limitsAt gate (cells ks)) of w′
   pub off : r ≡ Nothing → w′ ≡ w
   pub kept : (j : ℕ) → Stays gate (cells ks) j → at w′ j ≡ at w j
   pub len : length w′ ≡ length w

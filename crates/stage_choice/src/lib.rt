@@ -4,13 +4,11 @@ use masks::Pair;
 use rules::Gate;
 use rules::PLACES;
 use tables::fill;
-ghost use Prim.Native.Nat.{_+_, _*_};
-ghost use mathlib.Core.Path.{_≡_};
 ghost use Rattle.rules.specs.Join.{joinExists};
 ghost use Rattle.masks.specs.Masks.{Known};
 ghost use Rattle.masks.specs.Searching.{FirstPair};
 ghost use Rattle.stage_drops.specs.Working.{Room, frontStage, Proper};
-ghost use Rattle.stage_choice.specs.Choosing.{limitsAt, Spaced, Exchangeable, Exchanged, LimitsLaid, Sought, Decided, MinSettled, Settled, Chosen};
+ghost use Rattle.stage_choice.specs.Choosing.{Spaced, Exchangeable, Exchanged, LimitsLaid, Sought, Decided, MinSettled, Settled, Chosen};
 
 // What a stage does: the one record of a stage with no condition left or one, a split, or a join.
 pub enum Choice {
@@ -52,7 +50,7 @@ fn lay_limits(w: &mut [u8], gate: Gate, ks: [u8; PLACES], m: u8, n: usize) -> us
 // written.
 fn seek(w: &mut [u8], gate: Gate, ks: [u8; PLACES], m: u8, n: usize, pair: Pair) -> Found
     requires { ⌜ Room (now w) ks n × Proper m (frontStage ks (now w)) × FirstPair ks (λ a b. joinExists gate ks m a b (frontStage ks (now w) .limits)) «pair» ⌝ }
-    ensures { λ r. ⌜ Sought gate m ks (limitsAt gate n) (now (w .entry)) r (now (w .exit)) ⌝ }
+    ensures { λ r. ⌜ Sought gate m ks (now (w .entry)) r (now (w .exit)) ⌝ }
 {
     let Pair::Found(i, j) = pair else {
         return Found::Nothing;
@@ -98,12 +96,13 @@ fn settle(w: &mut [u8], choice: Choice, n: usize)
     requires { ⌜ Spaced (now w) n ⌝ }
     ensures { λ _. ⌜ Settled n (now (w .entry)) choice (now (w .exit)) ⌝ }
 {
-    let Choice::Join(gate, _) = choice else {
-        return;
-    };
-    match gate {
-        Gate::Max => {}
-        Gate::Min => settle_min(w, n),
+    match choice {
+        Choice::Leaf => {}
+        Choice::Split => {}
+        Choice::Join(gate, _) => match gate {
+            Gate::Max => {}
+            Gate::Min => settle_min(w, n),
+        },
     }
 }
 

@@ -2,7 +2,7 @@
 use mathlib.Core.Path.{refl}
 use mathlib.Core.Bool.{true, false}
 use Rattle.rules.specs.declared.Gate.the-variants.{Min, Max}
-use Rattle.grouping.specs.declared.Found.the-variants.{Nothing, Sets as Some}
+use Rattle.stage_choice.specs.declared.Found.the-variants.{Nothing, Sets as Some}
 use Rattle.stage_choice.specs.declared.Choice.the-variants.{Join}
 use Rattle.stage_choice.proofs.ChoiceLaws.{decided, decided-both}
 use borrow.Author.Needs.{needs}
