@@ -1,6 +1,7 @@
 // Step 1 of a stage: conditions that can be dropped. The stage's limits are at the front of its buffer, the
 // lower ones and right behind them the upper ones, a byte for each cell. A drop leaves them so.
 use places::sets;
+use places::sets::Condition;
 use rows::packing;
 use rules::PLACES;
 ghost use mathlib.Core.Path.{_≡_};
@@ -9,6 +10,7 @@ ghost use mathlib.Core.Logic.{_⊎_};
 ghost use Rattle.rules.specs.Cell.{cells, singleton, without};
 ghost use Rattle.rules.specs.Stage.{outside, merged, fits, dropOne, left};
 ghost use Prim.Native.Nat.{_+_, _*_, _≤_};
+ghost use Rattle.places.specs.Conditions.{IsLowest};
 ghost use Rattle.tables.specs.Line.{Blocks, lineExtremes, Counts};
 ghost use Rattle.tables.specs.Part.{Laid};
 ghost use Rattle.stage_drops.specs.Working.{Room, frontStage, Turned};
@@ -78,6 +80,17 @@ fn drop_if_possible(w: &mut [u8], ks: [u8; PLACES], i: usize, n: usize, step: us
         return true;
     }
     false
+}
+
+// The same for the condition of a stage that has one, or none: whether it was dropped.
+pub fn drop_last(w: &mut [u8], ks: [u8; PLACES], n: usize, low: Condition) -> bool
+    requires { ⌜ Room (now w) ks n × IsLowest ks low × (low .values ≡ n) ⌝ }
+    ensures { λ r. ⌜ Turned left ks (now (w .entry)) (cond r (without (singleton (low .number)) ks) ks) (now (w .exit)) ⌝ }
+{
+    if PLACES <= low.number {
+        return false;
+    }
+    drop_if_possible(w, ks, low.number, n, 1)
 }
 
 // The stage with its conditions left, under its limits from then on.
