@@ -1,0 +1,4 @@
+-- What several proofs use.
+pub mod BitLaws
+pub mod MarkLaws
+pub mod PairLaws
