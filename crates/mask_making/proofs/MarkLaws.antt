@@ -63,6 +63,27 @@ copied f {w} {from} {to} {n} {w′} p l m =
     let e = l .len in
     laid-as (ap f (laid-part l d (part-length w from n (p .src)))) (laid-then l (lent-laid w′ to n (omega arith) f m))
 
+-- of parts of n bytes, one that is written, and another before it or behind it
+module _ {w : List ℕ} {n : ℕ} (room : 5 * n ≤ length w) where
+  pub part-before : (a b : ℕ) → a + n ≤ b → b + n ≤ 5 * n → Two w a b n
+  part-before a b h g = record { src = omega arith; dst = omega arith; apart = inl (omega arith) }
+
+  pub part-behind : (a b : ℕ) → b + n ≤ a → a + n ≤ 5 * n → Two w a b n
+  part-behind a b h g = record { src = omega arith; dst = omega arith; apart = inr (omega arith) }
+
+-- the masks for max while extremes are laid at the fifth part, and those for min after that
+module _ {w : List ℕ} {n b : ℕ} {t v : List ℕ} (h : HaveBit w n b 0) (l : Laid w (4 * n) t n v) where
+  pub first-least : Least v (2 * n) n b
+  first-least = record { mask = λ x lt. omega (arith, h .cell x (omega arith) lt .first, l .before (2 * n + x) (omega arith)) }
+
+  pub second-least : {f v′ g w′ : List ℕ} → Laid v (2 * n) f n v′ → Laid v′ (4 * n) g n w′ → Least w′ (3 * n) n b
+  second-least m k =
+      record {
+        mask = λ x lt.
+            omega
+            (arith, h .cell x (omega arith) lt .second, l .before (3 * n + x) (omega arith), m .after (3 * n + x) (omega arith), k .before (3 * n + x) (omega arith));
+      }
+
 module _ {w ks : List ℕ} {n : ℕ} (s : Space w ks n) where
   pub space-same : (w′ : List ℕ) → Kept w n w′ → Space w′ ks n
   space-same w′ k =
@@ -72,13 +93,6 @@ module _ {w ks : List ℕ} {n : ℕ} (s : Space w ks n) where
         room = let r = s .room in let e = k .len in omega arith;
         ordered = λ c h. omega (arith, s .ordered c h, k .limits c (omega arith), k .limits (n + c) (omega arith));
       }
-
-  -- parts of n bytes lie apart
-  pub part-up : (a b : ℕ) → a + n ≤ b → b + n ≤ 5 * n → Two w a b n
-  part-up a b h g = let r = s .room in record { src = omega arith; dst = omega arith; apart = inl (omega arith) }
-
-  pub part-down : (a b : ℕ) → b + n ≤ a → a + n ≤ 5 * n → Two w a b n
-  part-down a b h g = let r = s .room in record { src = omega arith; dst = omega arith; apart = inr (omega arith) }
 
   pub limits-part : {w′ : List ℕ} → Kept w n w′ → (a : ℕ) → a ≤ n → part w′ a n ≡ part w a n
   limits-part {w′} k a h = let r = s .room in part-same w w′ a n (omega arith) (k .len) (λ x lt. k .limits (a + x) (omega arith))
