@@ -3,3 +3,4 @@ pub mod BitLaws
 pub mod MarkLaws
 pub mod PairLaws
 pub mod TwoLaws
+pub mod MakeLaws

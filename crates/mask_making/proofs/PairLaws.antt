@@ -15,7 +15,7 @@ use Rattle.tables.proofs.LineLaws.{line-end}
 use Rattle.mask_making.specs.Marking.{less, Taken, HasBit, HaveBit, Kept, Same, CellMarked, Beside, LineMarked, OnlyLine, RowsMarked, BlocksMarked}
 
 -- what stays
-kept-self : (w : List ℕ) (n : ℕ) → Kept w n w
+pub kept-self : (w : List ℕ) (n : ℕ) → Kept w n w
 kept-self w n = record { len = refl; limits = λ j h. refl }
 
 pub kept-then : {w : List ℕ} {n : ℕ} {w′ w″ : List ℕ} → Kept w n w′ → Kept w′ n w″ → Kept w n w″
