@@ -1,0 +1,6 @@
+-- What several proofs use.
+pub mod BitLaws
+pub mod MarkLaws
+pub mod PairLaws
+pub mod TwoLaws
+pub mod MakeLaws

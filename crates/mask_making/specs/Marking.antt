@@ -1,0 +1,82 @@
+-- Masks on the way: the bit of one condition, taken from the masks of the cells that do not refuse it.
+use Prim.Native.Nat.{ℕ, _+_, _-_, _*_, _≤_, _<_}
+use mathlib.Core.Path.{_≡_}
+use mathlib.Core.Bool.{Bool}
+use mathlib.Core.List.{List}
+use mathlib.Core.Logic.{_⊎_}
+use lib.Dec.{ltb}
+use lib.ListN.{length}
+use Rattle.rules.specs.Bytes.{pick, at}
+use Rattle.tables.specs.Part.{part}
+use Rattle.masks.specs.Masks.{aboveLeast, belowGreatest}
+
+-- a mask, from which a bit is taken unless the test passes
+abbrev pub less : Bool → ℕ → ℕ → ℕ
+less refuses bit mask = mask - pick refuses 0 bit
+
+-- so much is taken from the byte at j
+pub record Taken (w : List ℕ) (j b : ℕ) (w′ : List ℕ) : Type 0 where
+  pub len : length w′ ≡ length w
+  pub here : at w′ j ≡ at w j - b
+  pub other : (k : ℕ) → (k ≡ j → ⊥) → at w′ k ≡ at w k
+
+-- n masks at a, from each of which b can be taken
+pub record Least (w : List ℕ) (a n b : ℕ) : Type 0 where
+  pub mask : (x : ℕ) → x < n → b ≤ at w (a + x)
+
+-- the masks of cell x, for max and for min, from which b can be taken
+pub record HasBit (w : List ℕ) (n b x : ℕ) : Type 0 where
+  pub first : b ≤ at w (2 * n + x)
+  pub second : b ≤ at w (3 * n + x)
+
+-- those of the cells from a on
+pub record HaveBit (w : List ℕ) (n b a : ℕ) : Type 0 where
+  pub room : 4 * n ≤ length w
+  pub cell : (x : ℕ) → a ≤ x → x < n → HasBit w n b x
+
+-- the limits are as they were
+pub record Kept (w : List ℕ) (n : ℕ) (w′ : List ℕ) : Type 0 where
+  pub len : length w′ ≡ length w
+  pub limits : (j : ℕ) → j < 2 * n → at w′ j ≡ at w j
+
+-- the masks of cell x are as they were
+pub record Same (w : List ℕ) (n x : ℕ) (w′ : List ℕ) : Type 0 where
+  pub first : at w′ (2 * n + x) ≡ at w (2 * n + x)
+  pub second : at w′ (3 * n + x) ≡ at w (3 * n + x)
+
+-- b is taken from them, unless the cell refuses the condition: p for max, q for min
+pub record CellMarked (w : List ℕ) (n b x : ℕ) (p q : Bool) (w′ : List ℕ) : Type 0 where
+  pub first : at w′ (2 * n + x) ≡ less p b (at w (2 * n + x))
+  pub second : at w′ (3 * n + x) ≡ less q b (at w (3 * n + x))
+
+-- y is the only other cell of x's line: as its own limits are in order, x refuses the condition if its grade is beyond the limit of y
+abbrev pub Beside : List ℕ → ℕ → ℕ → ℕ → ℕ → List ℕ → Type 0
+Beside w n b x y w′ = CellMarked w n b x (ltb (at w (n + y)) (at w x)) (ltb (at w (n + x)) (at w y)) w′
+
+-- both cells of a line
+pub record LineMarked (w : List ℕ) (n b x y : ℕ) (w′ : List ℕ) : Type 0 where
+  pub one : Beside w n b x y w′
+  pub two : Beside w n b y x w′
+
+-- and no other cell
+pub record OnlyLine (w : List ℕ) (n b x y : ℕ) (w′ : List ℕ) : Type 0 where
+  pub kept : Kept w n w′
+  pub done : LineMarked w n b x y w′
+  pub left : (z : ℕ) → z < n → (z ≡ x → ⊥) → (z ≡ y → ⊥) → Same w n z w′
+
+-- the first s lines of a block of two rows of `step` cells at a, and no other cell
+pub record RowsMarked (w : List ℕ) (n b a step s : ℕ) (w′ : List ℕ) : Type 0 where
+  pub kept : Kept w n w′
+  pub done : (o : ℕ) → o < s → LineMarked w n b (a + o) (a + step + o) w′
+  pub left : (z : ℕ) → z < n → ((o : ℕ) → o < s → (z ≡ a + o) ⊎ (z ≡ a + step + o) → ⊥) → Same w n z w′
+
+-- the first `count` such blocks, and no other cell
+pub record BlocksMarked (w : List ℕ) (n b step count : ℕ) (w′ : List ℕ) : Type 0 where
+  pub kept : Kept w n w′
+  pub done : (k o : ℕ) → k < count → o < step → LineMarked w n b (step * 2 * k + o) (step * 2 * k + step + o) w′
+  pub left : (z : ℕ) → step * 2 * count ≤ z → z < n → Same w n z w′
+
+-- condition i, whose bit is b, at every cell
+pub record Marked (w ks : List ℕ) (i n b : ℕ) (w′ : List ℕ) : Type 0 where
+  pub kept : Kept w n w′
+  pub cell : (x : ℕ) → x < n → let l = part w 0 n in let u = part w n n in CellMarked w n b x (aboveLeast ks l u i x) (belowGreatest ks l u i x) w′
