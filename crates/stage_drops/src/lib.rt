@@ -5,11 +5,11 @@ use places::sets::Condition;
 use rows::packing;
 use rules::PLACES;
 ghost use mathlib.Core.Path.{_≡_};
-ghost use mathlib.Core.Bool.{cond};
+ghost use mathlib.Core.Bool.{true, cond};
 ghost use mathlib.Core.Logic.{_⊎_};
 ghost use Rattle.rules.specs.Cell.{cells, singleton, without};
 ghost use Rattle.rules.specs.Stage.{outside, merged, fits, dropOne, left};
-ghost use Prim.Native.Nat.{_+_, _*_, _≤_};
+ghost use Prim.Native.Nat.{_+_, _*_, _≤_, _<_};
 ghost use Rattle.places.specs.Conditions.{IsLowest};
 ghost use Rattle.tables.specs.Line.{Blocks, lineExtremes, Counts};
 ghost use Rattle.tables.specs.Part.{Laid};
@@ -85,7 +85,7 @@ fn drop_if_possible(w: &mut [u8], ks: [u8; PLACES], i: usize, n: usize, step: us
 // The same for the condition of a stage that has one, or none: whether it was dropped.
 pub fn drop_last(w: &mut [u8], ks: [u8; PLACES], n: usize, low: Condition) -> bool
     requires { ⌜ Room (now w) ks n × IsLowest ks low × (low .values ≡ n) ⌝ }
-    ensures { λ r. ⌜ Turned left ks (now (w .entry)) (cond r (without (singleton (low .number)) ks) ks) (now (w .exit)) ⌝ }
+    ensures { λ r. ⌜ Turned left ks (now (w .entry)) (cond r (without (singleton (low .number)) ks) ks) (now (w .exit)) × (r ≡ true → low .number < 8) ⌝ }
 {
     if PLACES <= low.number {
         return false;

@@ -1,5 +1,6 @@
 -- `stage_drops::drop_last` meets its contract.
-use mathlib.Core.Path.{_≡_}
+use mathlib.Core.Path.{_≡_, sym, subst}
+use lib.Dec.{T}
 use lib.ListN.{length}
 use native.Mathlib.Omega.{arith}
 use borrow.Author.Needs.{needs}
@@ -11,7 +12,7 @@ returns : tie.Need-returns
 returns c =
     let b = c .before .before .before in
     let e : length (b .args .ks) ≡ 8 = search needs in
-    none-turned (b .args .w .now) (b .pre .0) (b .pre .1) (b .pre .2) e (c .if1 .taken)
+    (none-turned (b .args .w .now) (b .pre .0) (b .pre .1) (b .pre .2) e (c .if1 .taken), λ h. absurd (subst T (sym h) tt))
 
 drop-if-possible-requires : tie.Need-drop-if-possible-requires
 drop-if-possible-requires c κs =
@@ -26,7 +27,8 @@ returns-2 : tie.Need-returns-2
 returns-2 c =
     let b = c .before .before .before .before .before .before .before in
     let e : length (b .args .ks) ≡ 8 = search needs in
-    last-turned (b .args .w .now) (b .pre .0) (b .pre .1) (b .pre .2) (omega (arith, c .before .before .before .before .if1 .left)) e (c .before .before .drop-if-possible .ensures)
+    let l = c .before .before .before .before .if1 .left in
+    (last-turned (b .args .w .now) (b .pre .0) (b .pre .1) (b .pre .2) (omega arith) e (c .before .before .drop-if-possible .ensures), λ h. omega arith)
 
 pub drop-last-spec : {M : Type 1} → statement M
 drop-last-spec = tie.close (tie.spec returns drop-if-possible-requires same-length returns-2)

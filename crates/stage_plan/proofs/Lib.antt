@@ -1,0 +1,2 @@
+-- Laws of `stage_plan`.
+pub mod PlanLaws

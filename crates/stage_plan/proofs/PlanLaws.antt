@@ -1,0 +1,200 @@
+-- What a stage does, from its masks or from its limits.
+use Prim.Native.Nat.{ℕ, _+_, _*_, _≤_, _<_}
+use mathlib.Core.Path.{_≡_, refl, sym, _∙_, ap, ap₂, subst}
+use mathlib.Core.Bool.{Bool, true, false, cond, _&&_}
+use mathlib.Core.List.{List}
+use native.Mathlib.Omega.{arith}
+use lib.Dec.{T}
+use lib.ListN.{length}
+use Rattle.rules.specs.declared.Gate.the-variants.{Min, Max}
+use Rattle.rules.specs.Bytes.{at}
+use Rattle.rules.specs.Cell.{cells, card, width, lowest, singleton, without}
+use Rattle.rules.specs.Stage.{Stage, left, split, chosen}
+use Rattle.laws.proofs.TestLaws.{and-l, and-r, passed}
+use Rattle.laws.proofs.GateLaws.{Good}
+use Rattle.laws.proofs.CellLaws.{present-lt}
+use Rattle.laws.proofs.LowestLaws.{no-width, lowest-present, lowest-width, some-left, narrow-left, wide-left}
+use Rattle.laws.proofs.StageLaws.{Ready, Shrunk, left-shrunk, left-ready}
+use Rattle.places.specs.declared.sets.Condition.{Condition}
+use Rattle.places.specs.Conditions.{IsLowest}
+use Rattle.tables.specs.Part.{part, Shaped}
+use Rattle.tables.proofs.PartLaws.{part-at, part-same}
+use Rattle.masks.specs.Masks.{Known, maskPart, someFull, fullFrom, every, Union}
+use Rattle.masks.proofs.SplitLaws.{full-split, seen-left}
+use Rattle.mask_making.specs.Making.{Space, Made}
+use Rattle.mask_making.proofs.MadeLaws.{made-known}
+use Rattle.stage_drops.specs.Working.{Room, frontStage, Turned, Proper}
+use Rattle.stage_drops.proofs.DropLaws.{stageOf, fewer-shaped, as-shaped}
+use Rattle.stage_choice.specs.declared.Choice.{Choice}
+use Rattle.stage_choice.specs.declared.Choice.the-variants.{Leaf, Split, Join}
+use Rattle.stage_choice.specs.Choosing.{Chosen}
+use Rattle.stage_plan.specs.declared.Plan.{Plan}
+use Rattle.stage_plan.specs.Planning.{Ordered, Learnt, bothFull, Leaves, Does, Planned, Ends}
+
+proper-ready : {m : ℕ} {x : Stage} → Shaped (x .ks) → Proper m x → Ready m x
+proper-ready s h = record { grades = h .some; pos = s .some; good = record { room = h .ordered; top = h .top } }
+
+module _ {ks w : List ℕ} {n : ℕ} (room : Room w ks n) where
+  abbrev x : Stage
+  x = frontStage ks w
+
+  pub ordered : {m : ℕ} → Proper m x → Ordered w n
+  ordered h =
+      subst (Ordered w) (sym (room .own))
+      (record {
+        under = λ c l.
+            subst (λ (a : ℕ). a ≤ at w (cells ks + c)) (part-at w 0 (cells ks) c l ∙ ap (at w) (omega arith))
+            (subst (λ (b : ℕ). at (part w 0 (cells ks)) c ≤ b) (part-at w (cells ks) (cells ks) c l) (h .ordered c l));
+      })
+
+  pub space : Ordered w n → Space w ks n
+  space o = let r = room .room in record { shaped = room .shaped; own = room .own; room = omega arith; ordered = o .under }
+
+  -- the masks made
+  module _ {w′ : List ℕ} (o : Ordered w n) (d : Made w ks n w′) where
+    pub made-stage : frontStage ks w′ ≡ x
+    made-stage = ap₂ (stageOf ks) (same 0 (omega arith)) (same (cells ks) (omega arith))
+      where
+        same : (a : ℕ) → a + cells ks ≤ 2 * cells ks → part w′ a (cells ks) ≡ part w a (cells ks)
+        same a h = let e = room .own in let r = room .room in part-same w w′ a (cells ks) (omega arith) (d .len) (λ j l. d .limits (a + j) (omega arith))
+
+    pub made-masks : (m : ℕ) → Proper m x → Known m ks w′
+    made-masks m h = made-known m (space o) (record { room = h .ordered; top = h .top }) d
+
+    pub learnt-made : (known : Bool) → Learnt ks known w w′
+    learnt-made known = record { masks = λ m h k. made-masks m h; stage = made-stage; len = d .len }
+
+  pub room-same : {w′ : List ℕ} → length w′ ≡ length w → Room w′ ks n
+  room-same e = let r = room .room in record { shaped = room .shaped; own = room .own; room = omega arith }
+
+pub learnt-known : {ks w : List ℕ} {known : Bool} → known ≡ true → Learnt ks known w w
+learnt-known e = record { masks = λ m h k. k e; stage = refl; len = refl }
+
+-- what a stage finds: its limits, where none or one condition is left; and what was chosen
+module _ {ks w : List ℕ} {n : ℕ} {low : Condition} (room : Room w ks n) (is : IsLowest ks low) where
+  pub narrow-here : low .values ≡ n → width ks < 2
+  narrow-here e = narrow-left ks (room .shaped .some) (sym (is .values) ∙ e ∙ room .own)
+
+  pub wide-here : (low .values ≡ n → ⊥) → 2 ≤ width ks
+  wide-here ne = wide-left ks (room .shaped .some) (λ e. ne (is .values ∙ e ∙ sym (room .own)))
+
+  pub does-leaf : {m : ℕ} → low .values ≡ n → Does m (frontStage ks w) w Leaf w
+  does-leaf e = record { finds = record { narrow = narrow-here e; stage = refl }; len = refl }
+
+pub does-chosen : {m : ℕ} (ks w : List ℕ) (r : Choice) {w′ : List ℕ} → 2 ≤ width ks → Known m ks w → Chosen m (frontStage ks w) w r w′ → Does m (frontStage ks w) w r w′
+does-chosen ks w Leaf wide k c = absurd (c .is)
+does-chosen {m} ks w Split wide k c =
+    record {
+      finds = record { wide = wide; is = c .is; stage = ap (frontStage ks) (c .tables); masks = subst (Known m ks) (sym (c .tables)) k };
+      len = c .len;
+    }
+does-chosen ks w (Join gate of) wide k c = record { finds = record { wide = wide; is = c .is; tables = c .tables }; len = c .len }
+
+-- the same of an equal stage, and of a buffer that was as long before
+pub does-same : {m : ℕ} {y z : Stage} {v w : List ℕ} {r : Choice} {w′ : List ℕ} → y ≡ z → length v ≡ length w → Does m y v r w′ → Does m z w r w′
+does-same {m} {y} {z} {v} {w} {r} {w′} e l d =
+    subst (λ (x : Stage). Does m x w r w′) e (record { finds = d .finds; len = d .len ∙ l })
+
+-- conditions were dropped
+module _ {m : ℕ} {ks w : List ℕ} {n : ℕ} (room : Room w ks n) (proper : Proper m (frontStage ks w)) {l w₁ : List ℕ} (t : Turned left ks w l w₁) where
+  abbrev y : Stage
+  y = left (frontStage ks w)
+
+  places : l ≡ y .ks
+  places = ap (λ (z : Stage). z .ks) (t .stage)
+
+  shrunk : Shrunk (frontStage ks w) y
+  shrunk = left-shrunk (frontStage ks w) (room .shaped .some)
+
+  pub left-room : {k : ℕ} → k ≡ cells l → Room w₁ l k
+  left-room {k} e =
+      let s = shrunk .less in
+      let p = ap cells places in
+      let f = room .shaped .few in
+      let q = room .own in
+      let r = room .room in
+      let h = t .len in
+      record { shaped = as-shaped places (record { some = shrunk .pos; few = omega arith }); own = e; room = omega arith }
+
+  pub left-proper : Proper m (frontStage l w₁)
+  left-proper =
+      let r = left-ready m (frontStage ks w) (proper-ready (room .shaped) proper) in
+      subst (Proper m) (sym (t .stage)) (record { some = r .grades; ordered = r .good .room; top = r .good .top })
+
+  pub left-planned : {k : ℕ} {low : Condition} {r : Choice} {w′ : List ℕ} → k ≡ cells l → IsLowest l low → Does m (frontStage l w₁) w₁ r w′
+      → Planned m ks w (record { places = l; cells = k; low = low; choice = r }) w′
+  left-planned e is d = record { places = places; own = e; lowest = is; does = does-same (t .stage) (t .len) d }
+
+-- none was
+module _ {m : ℕ} {ks w : List ℕ} {n : ℕ} {low : Condition} (room : Room w ks n) (is : IsLowest ks low) (none : left (frontStage ks w) ≡ frontStage ks w) where
+  pub planned : {r : Choice} {w′ : List ℕ} → Does m (frontStage ks w) w r w′ → Planned m ks w (record { places = ks; cells = n; low = low; choice = r }) w′
+  planned d = record { places = ap (λ (z : Stage). z .ks) (sym none); own = room .own; lowest = is; does = does-same (sym none) refl d }
+
+-- what the masks of a stage tell
+module _ {m : ℕ} {ks w : List ℕ} {n : ℕ} {low : Condition} (room : Room w ks n) (is : IsLowest ks low) (masks : Known m ks w) (eight : length ks ≡ 8) where
+  pub number-below : 2 ≤ width ks → low .number < 8
+  number-below h = let e = is .number in let l = present-lt ks (lowest ks) (lowest-present ks (room .shaped .some) (omega arith)) in omega arith
+
+  -- for either gate a mask has all conditions
+  pub full-plan : 2 ≤ width ks → bothFull w n (low .number) ≡ true → Planned m ks w (record { places = ks; cells = n; low = low; choice = Split }) w
+  full-plan wide e =
+      planned room is (both .0)
+      (record { finds = record { wide = wide; is = both .1; stage = refl; masks = masks }; len = refl })
+    where
+      here : T (bothFull w (cells ks) (lowest ks))
+      here = subst T (sym (ap₂ (bothFull w) (sym (room .own)) (sym (is .number)) ∙ e)) tt
+
+      both : (left (frontStage ks w) ≡ frontStage ks w) × (chosen m (frontStage ks w) ≡ split)
+      both =
+          let c = cells ks in
+          full-split ks m (frontStage ks w .limits) eight (part w (2 * c) c) (part w (3 * c) c) (masks .masks Max) (masks .masks Min)
+          (passed (someFull c (part w (2 * c) c) (lowest ks)) (and-l (someFull c (part w (2 * c) c) (lowest ks)) (someFull c (part w (3 * c) c) (lowest ks)) here))
+          (passed (someFull c (part w (3 * c) c) (lowest ks)) (and-r (someFull c (part w (2 * c) c) (lowest ks)) (someFull c (part w (3 * c) c) (lowest ks)) here))
+
+  -- each condition is in some mask
+  pub seen-none : {s : ℕ} → Union n (part w (2 * n) n) every s → fullFrom (low .number) s ≡ true → left (frontStage ks w) ≡ frontStage ks w
+  seen-none {s} u e =
+      seen-left ks m (frontStage ks w .limits) eight (part w (2 * cells ks) (cells ks)) s (masks .masks Max)
+      (subst (λ (k : ℕ). Union k (part w (2 * k) k) every s) (room .own) u) (ap (λ (k : ℕ). fullFrom k s) (sym (is .number)) ∙ e)
+
+-- none left or one: the limits are at the front
+ends-with : {ks w : List ℕ} {l w′ : List ℕ} {n : ℕ} {low : Condition} → Turned left ks w l w′ → n ≡ cells l → IsLowest l low → width l < 2
+    → Ends ks w (record { places = l; cells = n; low = low; choice = Leaf }) w′
+ends-with {ks} {w} {l} {w′} t e is narrow =
+    record {
+      planned = λ m.
+          let p = ap (λ (z : Stage). z .ks) (t .stage) in
+          record {
+            places = p;
+            own = e;
+            lowest = is;
+            does =
+                record {
+                  finds =
+                      subst (λ (y : Stage). Leaves y w′) (t .stage) (record { narrow = narrow; stage = refl });
+                  len = t .len;
+                };
+          };
+    }
+
+-- a stage with one condition or none
+module _ {ks w : List ℕ} {n : ℕ} {low : Condition} (room : Room w ks n) (is : IsLowest ks low) (all : low .values ≡ n) where
+  pub ends-all : {w′ : List ℕ} → Turned left ks w ks w′ → Ends ks w (record { places = ks; cells = n; low = low; choice = Leaf }) w′
+  ends-all t = ends-with t (room .own) is (narrow-here room is all)
+
+  module _ (some : low .number < 8) (eight : length ks ≡ 8) {l w′ : List ℕ} (e : l ≡ without (singleton (low .number)) ks) (t : Turned left ks w (without (singleton (low .number)) ks) w′) where
+    no-condition : width l ≡ 0
+    no-condition =
+        let f = is .number in
+        let p = room .shaped .some in
+        let one : width ks < 2 = narrow-here room is all in
+        let two : 1 ≤ width ks = some-left ks p (omega arith) in
+        let q : width l ≡ width (without (singleton (lowest ks)) ks) = ap width (e ∙ ap (λ (i : ℕ). without (singleton i) ks) f) in
+        let r = lowest-width ks p two in
+        omega arith
+
+    pub ends-one : {low′ : Condition} → IsLowest l low′ → Ends ks w (record { places = l; cells = 1; low = low′; choice = Leaf }) w′
+    ends-one is′ =
+        ends-with (subst (λ (b : List ℕ). Turned left ks w b w′) (sym e) t)
+        (sym (no-width l (as-shaped e (fewer-shaped (singleton (low .number)) (room .shaped)) .some) no-condition)) is′
+        (let z = no-condition in omega arith)

@@ -1,0 +1,2 @@
+-- What the contracts of `stage_plan` cite.
+pub mod Planning
