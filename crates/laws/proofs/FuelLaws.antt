@@ -1,23 +1,21 @@
 -- A stage's network in terms of the networks of the stages that it starts.
 use Prim.Native.Nat.{ℕ, zero, suc, _-_, _≤_, _<_}
 use mathlib.Core.Path.{_≡_, refl, sym, _∙_, ap, ap₂}
-use mathlib.Core.Bool.{_&&_}
-use mathlib.Core.List.{List, [], _∷_}
+use mathlib.Core.List.{List}
 use native.Mathlib.Nat.{le-refl}
 use native.Mathlib.Omega.{arith}
 use lib.ListN.{length}
 use Rattle.rules.specs.Bytes.{at, numbersFrom}
-use Rattle.rules.specs.Cell.{Positive, card, present, width, lowest, singleton}
+use Rattle.rules.specs.Cell.{Positive, card, width, lowest, singleton}
 use Rattle.rules.specs.Limits.{Limits}
 use Rattle.rules.specs.Tree.{Tree, fixed, gated}
-use Rattle.rules.specs.Stage.{Stage, outside, merged, fits, drops, left, Choice, split, joining, chosen, firstStage, secondStage, cofactorStage, computed, selector, splitPart, splitTo, choiceTree, leftTree, stageTree, treeOf}
+use Rattle.rules.specs.Stage.{Stage, left, Choice, split, joining, chosen, firstStage, secondStage, cofactorStage, computed, selector, splitPart, splitTo, choiceTree, leftTree, stageTree, treeOf}
 use Rattle.rules.specs.Demands.{Admits, Table, Built, EveryStage}
 use Rattle.rules.specs.declared.Gate.the-variants.{Min, Max}
-use Rattle.laws.proofs.TestLaws.{and-l, cond-ok}
 use Rattle.laws.proofs.CellLaws.{without-pos, without-lt}
 use Rattle.laws.proofs.LowestLaws.{present-width, lowest-fewer}
 use Rattle.laws.proofs.GroupLaws.{ChoiceOf, chosen-ok, exact}
-use Rattle.laws.proofs.StageLaws.{left-shrunk, stages-ready}
+use Rattle.laws.proofs.StageLaws.{drops-none, left-shrunk, stages-ready}
 
 -- networks that are the same for every stage with fewer conditions
 module _ (m : ℕ) (net net′ : Stage → Tree) (y : Stage) (p : Positive (y .ks)) (same : (z : Stage) → width (z .ks) < width (y .ks) → Positive (z .ks) → net z ≡ net′ z) where
@@ -45,17 +43,10 @@ module _ (m : ℕ) (net net′ : Stage → Tree) (y : Stage) (p : Positive (y .k
   left-same (suc (suc n)) e = choice-same (chosen m y) (omega arith) (chosen-ok m y)
 
 -- without conditions there is nothing to drop
-drops-none : (is : List ℕ) (x : Stage) → width (x .ks) ≡ 0 → drops is x ≡ x
-drops-none [] x e = refl
-drops-none (i ∷ is) x e =
-    ap (drops is)
-    (cond-ok (λ (y : Stage). y ≡ x) (present (x .ks) i && fits (x .ks) (merged i x)) (outside (singleton i) x (merged i x)) x
-    (λ h. absurd (omega (arith, present-width (x .ks) i (and-l (present (x .ks) i) (fits (x .ks) (merged i x)) h)))) (λ n. refl))
-    ∙ drops-none is x e
-
 none-same : (m f : ℕ) (x : Stage) → width (x .ks) ≡ 0 → stageTree m (suc f) x ≡ fixed (at (x .limits .lower) 0)
 none-same m f x e =
-    ap (λ (y : Stage). leftTree m (stageTree m f) (width (y .ks)) y) (drops-none (numbersFrom 0 (length (x .ks))) x e)
+    ap (λ (y : Stage). leftTree m (stageTree m f) (width (y .ks)) y)
+    (drops-none x (λ i h t. absurd (omega (arith, present-width (x .ks) i h))) (numbersFrom 0 (length (x .ks))))
     ∙ ap (λ (n : ℕ). leftTree m (stageTree m f) n x) e
 
 -- more fuel than conditions changes nothing

@@ -1,12 +1,13 @@
 -- Joins by either gate: facts about max are carried to min by the exchange.
-use Prim.Native.Nat.{ℕ, _-_, _≤_, _<_, min, max}
-use mathlib.Core.Path.{_≡_, sym, _∙_, ap}
+use Prim.Native.Nat.{ℕ, zero, suc, _-_, _≤_, _<_, min, max}
+use mathlib.Core.Path.{_≡_, sym, _∙_, ap, ap₂}
+use mathlib.Core.Bool.{Bool, true, false}
 use mathlib.Core.List.{List}
 use native.Mathlib.Nat.{le-trans}
 use native.Mathlib.Omega.{arith}
 use lib.Dec.{T}
-use Rattle.rules.specs.Bytes.{at, tabulate}
-use Rattle.rules.specs.Cell.{Blind, cells}
+use Rattle.rules.specs.Bytes.{pick, at, tabulate}
+use Rattle.rules.specs.Cell.{Blind, cells, agreeOutside, overTo, leastOver, greatestOver}
 use Rattle.rules.specs.Limits.{Limits}
 use Rattle.rules.specs.Join.{above, uA, uB, lA, lB, maxExists, complement, exchange, exchangeFor, exchangeBlockFor, joinExists, firstLimits, secondLimits}
 use Rattle.rules.specs.Network.{combine}
@@ -29,6 +30,29 @@ pub record BlindTo (ks : List ℕ) (t : ℕ) (l : Limits) : Type 0 where
 
 pub complement-at : (ks : List ℕ) (m : ℕ) (t : List ℕ) (c : ℕ) → c < cells ks → at (complement ks m t) c ≡ m - 1 - at t c
 complement-at ks m t = at-tabulate (cells ks) (λ c. m - 1 - at t c)
+
+-- the least of what grades lack to n is what the greatest lacks
+lacks : (n : ℕ) (q : ℕ → Bool) (f g : ℕ → ℕ) (a e k : ℕ) → e ≡ n - a → ((d : ℕ) → d < k → g d ≡ n - f d)
+    → overTo min q g e k ≡ n - overTo max q f a k
+lacks n q f g a e zero s h = s
+lacks n q f g a e (suc k) s h =
+    ap₂ min (lacks n q f g a e k s (λ d l. h d (omega arith))) (go (q k)) ∙ less (overTo max q f a k) (pick (q k) (f k) a)
+  where
+    go : (t : Bool) → pick t (g k) e ≡ n - pick t (f k) a
+    go true = h k (omega arith)
+    go false = s
+
+    less : (x y : ℕ) → min (n - x) (n - y) ≡ n - max x y
+    less x y = omega arith
+
+-- so the exchange turns the greatest over a set into the least
+pub least-complement : (ks : List ℕ) (m t : ℕ) (f : List ℕ) (c : ℕ) → c < cells ks
+    → at (leastOver ks t (complement ks m f)) c ≡ m - 1 - at (greatestOver ks t f) c
+least-complement ks m t f c hc =
+    at-tabulate (cells ks) _ c hc
+    ∙ lacks (m - 1) (agreeOutside ks t c) (at f) (at (complement ks m f)) (at f c) (at (complement ks m f) c) (cells ks)
+    (complement-at ks m f c hc) (complement-at ks m f)
+    ∙ ap (λ (x : ℕ). m - 1 - x) (sym (at-tabulate (cells ks) _ c hc))
 
 module _ (ks : List ℕ) (m : ℕ) where
   pub exchange-good : (l : Limits) → Good ks m l → Good ks m (exchange ks m l)

@@ -6,13 +6,13 @@ use mathlib.Core.List.{List, [], _∷_}
 use mathlib.Core.Logic.{_⊎_, inl, inr, ⊎-elim}
 use native.Mathlib.Nat.{le-refl, add-assoc, mul-assoc, mul-add, mul-pos, mod-lt, mod-one, div-one, mod-eq-of-lt, div-div-eq-div-mul, not-suc-le-zero, le-of-suc-le-suc, mod-add-div}
 use native.Mathlib.Omega.{arith}
-use lib.Dec.{T, eqb, eqb→eq, eqb-refl}
+use lib.Dec.{T, eqb}
 use lib.ListN.{length, drop}
 use Rattle.rules.specs.Bytes.{pick, at}
 use Rattle.rules.specs.Cell.{Positive, cells, card, step, value, cell, remap, put, has, insert, singleton, without, agreeOutside, over, overTo}
 use Rattle.laws.proofs.OverLaws.{Bound, over-at, over-self, over-bound, overTo-at, overTo-both, subset}
 use Rattle.laws.proofs.TableLaws.{at-tabulate, tabulate-same}
-use Rattle.laws.proofs.TestLaws.{and-i, by-test}
+use Rattle.laws.proofs.TestLaws.{and-i, by-equal}
 use Rattle.laws.proofs.UnionLaws.{digit-mod, digit-div, digit-below, cover, over-over}
 use Rattle.laws.proofs.SetLaws.{has-same, has-keep, insert-has, singleton-has}
 use Rattle.laws.proofs.CellLaws.{div-below, cell-value, value-lt, value-inj, agree-value, value-agree}
@@ -135,9 +135,9 @@ pub put-agree : (ks : List ℕ) (c d i : ℕ) → Positive ks → c < cells ks �
 put-agree ks c d i p hc hd a =
     value-inj ks p _ d (put-lt ks c i (value ks d i) p hc (value-lt ks d i p)) hd
     (λ j.
-    by-test (eqb j i) (λ y. subst (λ (x : ℕ). value ks (put ks c i (value ks d i)) x ≡ value ks d x) (sym (eqb→eq j i y)) (put-same ks c i (value ks d i) p (value-lt ks d i p)))
-    (λ n.
-    let ne : j ≡ i → ⊥ = λ e. n (subst (λ (x : ℕ). T (eqb j x)) e (eqb-refl j)) in
+    by-equal j i
+    (λ e. subst (λ (x : ℕ). value ks (put ks c i (value ks d i)) x ≡ value ks d x) (sym e) (put-same ks c i (value ks d i) p (value-lt ks d i p)))
+    (λ ne.
     put-other ks c i j (value ks d i) p (value-lt ks d i p) ne ∙ agree-value ks (singleton i) c d j a (λ t. ne (singleton-has i j t))))
 
 -- a set within the shape, by its conditions

@@ -1,5 +1,5 @@
 -- One round more of each loop, and what a search has found.
-use Prim.Native.Nat.{ℕ, zero, suc, _+_, _-_, _*_, _/_, _%_, _≤_, _<_}
+use Prim.Native.Nat.{ℕ, zero, suc, _+_, _*_, _/_, _%_, _≤_, _<_}
 use mathlib.Core.Path.{_≡_, refl, sym, _∙_, ap, ap₂, subst}
 use mathlib.Core.Bool.{Bool, true, false, _&&_}
 use mathlib.Core.List.{List, [], _∷_}
@@ -12,7 +12,7 @@ use lib.Dec.{T, eqb, ltb}
 use lib.ListN.{length, getD, take}
 use Rattle.rules.specs.Bytes.{pick, at, numbersFrom}
 use Rattle.rules.specs.Cell.{Positive, cells, card, present, lowest, step, has, insert, singleton, without, over, overTo}
-use Rattle.rules.specs.Stage.{Stage, dropOne, drops, Grouping, none, sets, pairWith, firstPair, addCondition, grow}
+use Rattle.rules.specs.Stage.{Stage, dropOne, drops, Grouping, none, sets, pairWith, firstPair, addCondition, grow, grouping}
 use Rattle.laws.proofs.OverLaws.{Bound}
 use Rattle.laws.proofs.CellLaws.{cells-pos}
 use Rattle.laws.proofs.TestLaws.{cond-ok, pick-ok}
@@ -99,6 +99,14 @@ module _ (is : ℕ → Bool) (joins : ℕ → ℕ → Bool) where
   first-none a zero h = refl
   first-none a (suc n) h =
       pair-none a (suc a) n _ (λ j l k. h a j (le-refl a) l (omega arith)) ∙ first-none (suc a) n (λ i j l k q. h i j (omega arith) k (omega arith))
+
+  -- and there is nothing to grow
+  grow-none : (js : List ℕ) → grow is joins js none ≡ none
+  grow-none [] = refl
+  grow-none (i ∷ js) = grow-none js
+
+  pub grouping-none : (a n : ℕ) → ((i j : ℕ) → a ≤ i → i < j → j < a + n → T (Pair i j) → ⊥) → grouping is joins (numbersFrom a n) ≡ none
+  grouping-none a n h = ap (grow is joins (numbersFrom a n)) (first-none a n h) ∙ grow-none (numbersFrom a n)
 
   -- i and j join, and no pair before them
   pub first-at : (a n i j : ℕ) → a ≤ i → i < j → j < a + n → T (Pair i j) → ((k : ℕ) → i < k → k < j → T (Pair i k) → ⊥)

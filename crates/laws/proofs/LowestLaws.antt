@@ -44,6 +44,13 @@ width-two (k ∷ ks) p h =
     (λ b q. twice k (cells ks) 1 (ltb→lt 1 k b) (cells-pos ks (p .1)))
     (λ n q. le-trans (omega (arith, width-two ks (p .1) (omega arith))) (mul-le-mul-right (cells ks) (p .0))) h
 
+-- no condition is before the lowest
+pub first-lowest : (ks : List ℕ) (i : ℕ) → T (present ks i) → lowest ks ≤ i
+first-lowest [] i h = absurd h
+first-lowest (k ∷ ks) zero h = pick-ok (λ (x : ℕ). x ≤ 0) (ltb 1 k) 0 (suc (lowest ks)) (λ b. omega arith) (λ n. absurd (n h))
+first-lowest (k ∷ ks) (suc i) h =
+    pick-ok (λ (x : ℕ). x ≤ suc i) (ltb 1 k) 0 (suc (lowest ks)) (λ b. omega arith) (λ n. omega (arith, first-lowest ks i h))
+
 -- by cases on the first place: the lowest condition, or none, its cardinality being 1
 lowest-case : (k : ℕ) (ks : List ℕ) (Q : ℕ → Type 0) → 0 < k → 1 ≤ width (k ∷ ks) → (2 ≤ k → Q 0) → (k ≡ 1 → 1 ≤ width ks → Q (suc (lowest ks))) → Q (lowest (k ∷ ks))
 lowest-case k ks Q p h f g =
@@ -155,8 +162,11 @@ module _ (ks : List ℕ) (k c : ℕ) (p : Positive ks) (h : 1 ≤ width ks) (hk 
   abbrev n : ℕ
   n = card ks (lowest ks)
 
+  pub lowest-below : k + n * c < cells ks
+  lowest-below = rw (← (lowest-cells ks p h)) (digit-below n k c _ hk hc)
+
   digits : value ks (k + n * c) (lowest ks) + n * remap ks (without (singleton (lowest ks)) ks) (k + n * c) ≡ k + n * c
-  digits = lowest-cell ks (k + n * c) p h (rw (← (lowest-cells ks p h)) (digit-below n k c _ hk hc))
+  digits = lowest-cell ks (k + n * c) p h lowest-below
 
   pub lowest-digit : value ks (k + n * c) (lowest ks) ≡ k
   lowest-digit = sym (digit-mod n _ _ (value-lt ks (k + n * c) (lowest ks) p)) ∙ ap (λ (z : ℕ). z % n) digits ∙ digit-mod n k c hk

@@ -7,6 +7,7 @@ use native.Mathlib.Numerals.{add-one}
 use native.Mathlib.Omega.{arith}
 use lib.Dec.{eqb}
 use lib.ListN.{length, getD, take, List·getD-eq-default}
+use lib.Pow.{shr-shr}
 use Rattle.rules.specs.Bytes.{at}
 use Rattle.rules.specs.Cell.{Positive, cells, card, step, value, number, cell, has}
 use Rattle.laws.proofs.UnionLaws.{digit-below}
@@ -88,3 +89,7 @@ step-fits ks i h l = omega (arith, step-bytes ks i (λ j. card-byte ks j h), pow
 pub has-bit : (s i : ℕ) → has s i ≡ eqb (s / 2 ^ i % 2) 1
 has-bit s zero = ap (λ (x : ℕ). eqb (x % 2) 1) (sym (div-one s))
 has-bit s (suc i) = has-bit (s / 2) i ∙ ap (λ (x : ℕ). eqb (x % 2) 1) (div-div-eq-div-mul s 2 (2 ^ i) ∙ ap (λ (x : ℕ). s / x) (sym (pow-succ' 2 i)))
+
+-- the bits from k on
+pub has-from : (k d s : ℕ) → has s (k + d) ≡ has (s / 2 ^ k) d
+has-from k d s = has-bit s (k + d) ∙ ap (λ (x : ℕ). eqb (x % 2) 1) (sym (shr-shr s k d)) ∙ sym (has-bit (s / 2 ^ k) d)

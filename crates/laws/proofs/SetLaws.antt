@@ -1,11 +1,12 @@
 -- Sets of conditions.
-use Prim.Native.Nat.{ℕ, zero, suc, _/_, _%_}
-use mathlib.Core.Path.{_≡_, refl, sym, ap, subst}
+use Prim.Native.Nat.{ℕ, zero, suc, _/_, _%_, _<_}
+use mathlib.Core.Path.{_≡_, refl, sym, _∙_, ap, subst}
 use mathlib.Core.Bool.{Bool, true, false, not, _||_}
 use mathlib.Core.List.{List, [], _∷_}
 use mathlib.Core.Logic.{_⊎_, inl, inr, ⊎-elim}
 use native.Mathlib.Nat.{le-refl, mod-lt}
 use native.Mathlib.Omega.{arith}
+use lib.Bits.{bitOr, or-shr, or-mod}
 use lib.Dec.{T, eqb}
 use Rattle.rules.specs.Cell.{has, insert, singleton}
 use Rattle.rules.specs.Demands.{Subset}
@@ -34,6 +35,18 @@ insert-has s (suc i) (suc j) h =
 pub has-none : (j : ℕ) → T (has 0 j) → ⊥
 has-none zero h = h
 has-none (suc j) h = has-none j h
+
+-- a union has what either set has
+pub has-or : (a b j : ℕ) → has (bitOr a b) j ≡ has a j || has b j
+has-or a b zero = ap (λ (x : ℕ). eqb x 1) (or-mod a b 1) ∙ digits (a % 2) (b % 2) (mod-lt a (omega arith)) (mod-lt b (omega arith))
+  where
+    digits : (x y : ℕ) → x < 2 → y < 2 → eqb (bitOr x y) 1 ≡ eqb x 1 || eqb y 1
+    digits zero y h g = refl
+    digits (suc zero) zero h g = refl
+    digits (suc zero) (suc zero) h g = refl
+    digits (suc zero) (suc (suc y)) h g = absurd (omega arith)
+    digits (suc (suc x)) y h g = absurd (omega arith)
+has-or a b (suc j) = ap (λ (x : ℕ). has x j) (or-shr a b 1) ∙ has-or (a / 2) (b / 2) j
 
 -- s with i is part of what has i and all of s
 pub insert-part : (s i u : ℕ) → Subset s u → T (has u i) → Subset (insert s i) u

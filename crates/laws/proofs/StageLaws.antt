@@ -5,23 +5,22 @@ use mathlib.Core.Bool.{Bool, true, false, _&&_}
 use mathlib.Core.List.{List, [], _∷_}
 use native.Mathlib.Nat.{le-refl, le-trans}
 use native.Mathlib.Omega.{arith}
-use lib.Dec.{T, leb, eqb, leb→le, eqb→eq, eqb-refl}
+use lib.Dec.{T, leb, eqb, leb→le, le→leb, eqb→eq, eqb-refl}
 use lib.ListN.{length}
-use Rattle.rules.specs.Bytes.{at, tabulate, pick, numbersFrom}
-use Rattle.rules.specs.Cell.{Positive, cells, card, present, width, lowest, value, remap, without, singleton}
+use Rattle.rules.specs.Bytes.{at, tabulate, all, pick, numbersFrom}
+use Rattle.rules.specs.Cell.{Positive, cells, card, present, width, lowest, value, remap, without, singleton, leastOver}
 use Rattle.rules.specs.Limits.{Limits}
 use Rattle.rules.specs.Join.{firstLimits, secondLimits}
 use Rattle.rules.specs.Tree.{Tree, fixed, lookup, treeGrade}
 use Rattle.rules.specs.Stage.{Stage, outside, computed, merged, fits, dropOne, drops, left, Choice, split, joining, chosen, firstStage, secondStage, cofactorStage, joinTree, splitPart, splitTo, choiceTree, leftTree, stageTree, treeOf, wholeTable, compiled}
 use Rattle.rules.specs.Demands.{Between, Inside, Admits, Table, StageOf, itself, first-block, second-block, cofactor}
 use Rattle.rules.specs.declared.Gate.{Gate}
-use Rattle.laws.proofs.TestLaws.{and-l, and-r, by-order, cond-ok, pick-ok}
-use Rattle.laws.proofs.TableLaws.{at-tabulate, all-at}
-use Rattle.laws.proofs.OverLaws.{max-bound, min-bound, over-self, over-blind}
-use Rattle.laws.proofs.UnionLaws.{digit-below}
+use Rattle.laws.proofs.TestLaws.{same-test, and-l, and-r, by-order, cond-ok, pick-ok}
+use Rattle.laws.proofs.TableLaws.{at-tabulate, all-at, all-of}
+use Rattle.laws.proofs.OverLaws.{max-bound, min-bound, over-self, over-least, over-blind}
 use Rattle.laws.proofs.SetLaws.{has-same}
 use Rattle.laws.proofs.CellLaws.{cells-pos, cell-lt, value-lt, Sub, sub-trans, sub-without, without-pos, without-le, without-lt, without-cells, without-half, moved-at, moved-blind}
-use Rattle.laws.proofs.LowestLaws.{no-width, lowest-two, lowest-present, lowest-fewer, lowest-cells, lowest-cell, one-cells, one-value}
+use Rattle.laws.proofs.LowestLaws.{no-width, lowest-two, lowest-present, lowest-fewer, lowest-cell, lowest-below, one-cells, one-value}
 use Rattle.laws.proofs.TreeLaws.{Made, made-tabulate, made-wider, made-below, made-remap, computed-at}
 use Rattle.laws.proofs.GroupLaws.{ChoiceOf, chosen-ok}
 use Rattle.laws.proofs.GateLaws.{Good, BlindTo, first-good, first-blind, second-good, second-blind, gate-within}
@@ -59,7 +58,35 @@ module _ (m t : ℕ) (x : Stage) (l : Limits) (p : Positive (x .ks)) where
       rw (moved-blind (x .ks) t (l .lower) c p (bl .lows) hc, moved-blind (x .ks) t (l .upper) c p (bl .highs) hc, made-remap (x .ks) b m n c p (without-pos t (x .ks) p) (sub-without t (x .ks)) (o .made))
       at (o .within (remap (x .ks) b c) (cell-lt b (value (x .ks) c) (without-pos t (x .ks) p)))
 
--- 1. Drop: the shape
+-- 1. Drop: a condition can be dropped where no lower grade is above the least upper grade over it, since that is blind to it
+pub drop-is : (ks : List ℕ) (i : ℕ) (l : Limits)
+    → all (cells ks) (λ c. leb (at (l .lower) c) (at (leastOver ks (singleton i) (l .upper)) c))
+    ≡ fits ks (merged i (record { ks = ks; limits = l }))
+drop-is ks i l =
+    let s = singleton i in
+    same-test _ _
+    (λ t.
+    all-of (cells ks) _
+    (λ c hc.
+    le→leb _ _
+    (over-least max-bound ks s (l .lower) (at (leastOver ks s (l .upper))) (over-blind min-bound ks s (l .upper))
+    (λ d hd. leb→le _ _ (all-at (cells ks) _ t d hd)) c hc)))
+    (λ t.
+    all-of (cells ks) _
+    (λ c hc. le→leb _ _ (le-trans (over-self max-bound ks s (l .lower) c hc) (leb→le _ _ (all-at (cells ks) _ t c hc)))))
+
+-- where none of those that are there can be, nothing is dropped
+pub drops-none : (x : Stage) → ((i : ℕ) → T (present (x .ks) i) → T (fits (x .ks) (merged i x)) → ⊥) → (is : List ℕ) → drops is x ≡ x
+drops-none x h [] = refl
+drops-none x h (i ∷ is) =
+    let there = present (x .ks) i in
+    let fit = fits (x .ks) (merged i x) in
+    ap (drops is)
+    (cond-ok (λ (y : Stage). y ≡ x) (there && fit) (outside (singleton i) x (merged i x)) x
+    (λ t. absurd (h i (and-l there fit t) (and-r there fit t))) (λ n. refl))
+    ∙ drops-none x h is
+
+-- the shape
 pub record Shrunk (x y : Stage) : Type 0 where
   pub pos : Positive (y .ks)
   pub sub : Sub (y .ks) (x .ks)
@@ -178,7 +205,7 @@ module _ (x : Stage) (p : Positive (x .ks)) (w : 1 ≤ width (x .ks)) (k : ℕ) 
   cofactor-at f = at-tabulate (cells sub) (λ c. at f (k + card (x .ks) (lowest (x .ks)) * c))
 
   pub cofactor-lt : (c : ℕ) → k < card (x .ks) (lowest (x .ks)) → c < cells sub → k + card (x .ks) (lowest (x .ks)) * c < cells (x .ks)
-  cofactor-lt c hk hc = rw (← (lowest-cells (x .ks) p w)) (digit-below (card (x .ks) (lowest (x .ks))) k c (cells sub) hk hc)
+  cofactor-lt c hk hc = lowest-below (x .ks) k c p w hk hc
 
   pub cofactor-ready : (m : ℕ) → Ready m x → k < card (x .ks) (lowest (x .ks)) → Ready m (cofactorStage k x)
   cofactor-ready m r hk =

@@ -65,6 +65,16 @@ all-false (suc n) p c h e =
     and-no true = refl
     and-no false = refl
 
+-- where not every cell passes, one fails
+pub all-fails : {P : Type 0} (n : ℕ) (p : ℕ → Bool) → all n p ≡ false → ((c : ℕ) → c < n → p c ≡ false → P) → P
+all-fails zero p e f = absurd (subst T e tt)
+all-fails {P} (suc n) p e f = go (all n p) (p n) refl refl (λ x. all-fails n p x (λ c h. f c (omega arith)))
+  where
+    go : (a b : Bool) → all n p ≡ a → p n ≡ b → (all n p ≡ false → P) → P
+    go false b x y r = r x
+    go true false x y r = f n (omega arith) y
+    go true true x y r = absurd (subst T (sym (ap₂ _&&_ x y) ∙ e) tt)
+
 -- a list is the table of what stands at its places
 tabulate-from-self : (f : ℕ → ℕ) (i : ℕ) (gs : List ℕ) → ((v : ℕ) → v < length gs → f (i + v) ≡ at gs v) → tabulateFrom f i (length gs) ≡ gs
 tabulate-from-self f i [] h = refl

@@ -2,8 +2,8 @@
 use Prim.Native.Nat.{ℕ, _≤_, _<_}
 use mathlib.Core.Path.{_≡_, refl, sym, ap, subst}
 use mathlib.Core.Bool.{Bool, true, false, cond, _&&_}
-use borrow.Author.Tests.{leb-true, leb-false}
-use lib.Dec.{T, leb}
+use borrow.Author.Tests.{leb-true, leb-false, eqb-true, eqb-false}
+use lib.Dec.{T, leb, eqb}
 use Rattle.rules.specs.Bytes.{pick}
 
 pub passes : {b : Bool} → b ≡ true → T b
@@ -71,6 +71,14 @@ pick-ok Q false x y f g = g (λ n. n)
 pub by-test : {P : Type 0} (b : Bool) → (T b → P) → ((T b → ⊥) → P) → P
 by-test true f g = f tt
 by-test false f g = g (λ n. n)
+
+-- by cases on whether two numbers are equal
+pub by-equal : {P : Type 0} (a b : ℕ) → (a ≡ b → P) → ((a ≡ b → ⊥) → P) → P
+by-equal {P} a b f g = go (eqb a b) refl
+  where
+    go : (q : Bool) → eqb a b ≡ q → P
+    go true e = f (eqb-true a b e)
+    go false e = g (eqb-false a b e)
 
 -- by cases on which of two numbers is greater
 pub by-order : {P : Type 0} (a b : ℕ) → (a ≤ b → P) → (b < a → P) → P

@@ -1,47 +1,31 @@
 -- A split leaves masks true for the other conditions.
-use Prim.Native.Nat.{ℕ, zero, suc, _+_, _-_, _*_, _%_, _≤_, _<_}
+use Prim.Native.Nat.{ℕ, _+_, _-_, _*_, _%_, _≤_, _<_}
 use mathlib.Core.Path.{_≡_, refl, sym, _∙_, ap, ap₂, subst}
 use mathlib.Core.Bool.{true}
 use mathlib.Core.List.{List}
 use native.Mathlib.Nat.{mod-eq-of-lt}
-use native.Mathlib.Omega.{arith}
-use lib.Dec.{T, eqb, ltb, eqb→eq, eqb-refl}
+use lib.Dec.{T, ltb}
 use Rattle.rules.specs.Bytes.{at, tabulate}
 use Rattle.rules.specs.Cell.{Positive, cells, card, width, lowest, value, put, has, singleton, without, leastOver, over, overTo}
-use Rattle.rules.specs.Limits.{Limits, each}
+use Rattle.rules.specs.Limits.{Limits, limitsOf, each}
 use Rattle.rules.specs.Join.{complement, exchangeFor}
 use Rattle.rules.specs.Stage.{cofactorStage}
 use Rattle.rules.specs.declared.Gate.{Gate}
 use Rattle.rules.specs.declared.Gate.the-variants.{Min, Max}
 use Rattle.laws.proofs.OverLaws.{Bound, min-bound}
-use Rattle.laws.proofs.TestLaws.{by-test}
+use Rattle.laws.proofs.TestLaws.{by-equal}
 use Rattle.laws.proofs.TableLaws.{at-tabulate, tabulate-same}
-use Rattle.laws.proofs.UnionLaws.{digit-below}
 use Rattle.laws.proofs.SetLaws.{has-same, singleton-has}
+use Rattle.laws.proofs.GateLaws.{complement-at}
 use Rattle.laws.proofs.CellLaws.{value-lt, value-cell, value-inj, card-out, present-out, without-pos}
 use Rattle.laws.proofs.LineLaws.{put-lt, put-same, put-other, over-line}
-use Rattle.laws.proofs.LowestLaws.{lowest-cells, lowest-digit, lowest-rest}
+use Rattle.laws.proofs.LowestLaws.{lowest-below, lowest-digit, lowest-rest}
+use Rattle.tables.proofs.LineLaws.{over-along}
 use Rattle.masks.specs.Masks.{aboveLeast, Masked}
-
--- the operation over equal numbers
-along : (op : ℕ → ℕ → ℕ) (f g : ℕ → ℕ) (a b n : ℕ) → a ≡ b → ((v : ℕ) → v < n → f v ≡ g v)
-    → overTo op (λ u. true) f a n ≡ overTo op (λ u. true) g b n
-along op f g a b zero e h = e
-along op f g a b (suc n) e h = ap₂ op (along op f g a b n e (λ v l. h v (omega arith))) (h n (omega arith))
-
--- by cases on whether two places are one
-by-same : {P : Type 0} (i j : ℕ) → (i ≡ j → P) → ((i ≡ j → ⊥) → P) → P
-by-same i j f g = by-test (eqb i j) (λ y. f (eqb→eq i j y)) (λ n. g (λ e. n (subst (λ (x : ℕ). T (eqb i x)) e (eqb-refl i))))
 
 -- the cells of a table where the lowest condition is k: cell c of those left is k + card × c
 abbrev pub cofactored : List ℕ → ℕ → List ℕ → List ℕ
 cofactored ks k f = tabulate (cells (without (singleton (lowest ks)) ks)) (λ c. at f (k + card ks (lowest ks) * c))
-
--- the limits of the stage that a split starts for value k
-pub cofactored-stage : (ks : List ℕ) (k : ℕ) (l : Limits)
-    → cofactorStage k (record { ks = ks; limits = l })
-    ≡ record { ks = without (singleton (lowest ks)) ks; limits = each (cofactored ks k) l }
-cofactored-stage ks k l = refl
 
 -- by the numbers of cells and of values, as a caller has counted them
 pub cofactored-as : (ks f : List ℕ) (n values k : ℕ) → n ≡ cells (without (singleton (lowest ks)) ks) → values ≡ card ks (lowest ks)
@@ -57,9 +41,9 @@ module _ (ks : List ℕ) (k : ℕ) (p : Positive ks) (w : 1 ≤ width ks) (hk : 
 
   -- cell c of those left, among all
   inside : (c : ℕ) → c < cells b → k + n * c < cells ks
-  inside c hc = rw (← (lowest-cells ks p w)) (digit-below n k c (cells b) hk hc)
+  inside c hc = lowest-below ks k c p w hk hc
 
-  pub cofactored-at : (f : List ℕ) (c : ℕ) → c < cells b → at (cofactored ks k f) c ≡ at f (k + n * c)
+  cofactored-at : (f : List ℕ) (c : ℕ) → c < cells b → at (cofactored ks k f) c ≡ at f (k + n * c)
   cofactored-at f = at-tabulate (cells b) (λ c. at f (k + n * c))
 
   rest-pos : Positive b
@@ -88,14 +72,14 @@ module _ (ks : List ℕ) (k : ℕ) (p : Positive ks) (w : 1 ≤ width ks) (hk : 
         let hv′ : v < card b i = rw (same-card i ne) hv in
         value-inj ks p _ _ (inside (put b c i v) hd) (put-lt ks (k + n * c) i v p (inside c hc) hv)
         (λ j.
-        by-same j (lowest ks)
+        by-equal j (lowest ks)
         (λ e.
         subst (λ (x : ℕ). value ks (k + n * put b c i v) x ≡ value ks (k + n * c) x) (sym e)
         (lowest-digit ks k (put b c i v) p w hk hd ∙ sym (lowest-digit ks k c p w hk hc))
         ∙ sym (put-other ks (k + n * c) i j v p hv (λ q. ne (sym q ∙ e))))
         (λ low.
         same-value (put b c i v) j hd low
-        ∙ by-same j i
+        ∙ by-equal j i
         (λ e.
         subst (λ (x : ℕ). value b (put b c i v) x ≡ value ks (put ks (k + n * c) i v) x) (sym e)
         (put-same b c i v rest-pos hv′ ∙ sym (put-same ks (k + n * c) i v p hv)))
@@ -103,13 +87,13 @@ module _ (ks : List ℕ) (k : ℕ) (p : Positive ks) (w : 1 ≤ width ks) (hk : 
         put-other b c i j v rest-pos hv′ apart ∙ sym (same-value c j hc low) ∙ sym (put-other ks (k + n * c) i j v p hv apart))))
 
     -- over one of the other conditions, of the cells where the lowest is k
-    pub over-cofactor : {op : ℕ → ℕ → ℕ} {R : ℕ → ℕ → Type 0} → Bound op R → (f : List ℕ) (c : ℕ) → c < cells b
+    over-cofactor : {op : ℕ → ℕ → ℕ} {R : ℕ → ℕ → Type 0} → Bound op R → (f : List ℕ) (c : ℕ) → c < cells b
         → at (over op b (singleton i) (cofactored ks k f)) c ≡ at (over op ks (singleton i) f) (k + n * c)
     over-cofactor {op} B f c hc =
         let g = cofactored ks k f in
         over-line B b g i c rest-pos hc
         ∙ ap (overTo op (λ v. true) (λ v. at g (put b c i v)) (at g c)) (same-card i ne)
-        ∙ along op (λ v. at g (put b c i v)) (λ v. at f (put ks (k + n * c) i v)) _ _ (card ks i) (cofactored-at f c hc)
+        ∙ over-along op (λ v. at g (put b c i v)) (λ v. at f (put ks (k + n * c) i v)) _ _ (card ks i) (cofactored-at f c hc)
         (λ v hv. cofactored-at f (put b c i v) (put-rest c v hc hv) ∙ ap (at f) (put-cofactor c v hc hv))
         ∙ sym (over-line B ks f i (k + n * c) p (inside c hc))
 
@@ -117,14 +101,12 @@ module _ (ks : List ℕ) (k : ℕ) (p : Positive ks) (w : 1 ≤ width ks) (hk : 
   exchange-cofactor : (op : Gate) (m : ℕ) (l : Limits)
       → exchangeFor op b m (each (cofactored ks k) l) ≡ each (cofactored ks k) (exchangeFor op ks m l)
   exchange-cofactor Max m l = refl
-  exchange-cofactor Min m l = ap₂ (λ (x y : List ℕ). record { lower = x; upper = y }) (one (l .upper)) (one (l .lower))
+  exchange-cofactor Min m l = ap₂ limitsOf (one (l .upper)) (one (l .lower))
     where
       one : (f : List ℕ) → complement b m (cofactored ks k f) ≡ cofactored ks k (complement ks m f)
       one f =
           tabulate-same (cells b) _ _
-          (λ c hc.
-          ap (λ (x : ℕ). m - 1 - x) (cofactored-at f c hc)
-          ∙ sym (at-tabulate (cells ks) (λ c. m - 1 - at f c) (k + n * c) (inside c hc)))
+          (λ c hc. ap (λ (x : ℕ). m - 1 - x) (cofactored-at f c hc) ∙ sym (complement-at ks m f (k + n * c) (inside c hc)))
 
   -- the masks of the stage that a split starts for value k are those of its cells
   pub masked-cofactor : (op : Gate) (m : ℕ) (l : Limits) (t : List ℕ) → Masked op ks m l t

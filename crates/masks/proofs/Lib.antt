@@ -1,9 +1,9 @@
 -- What several proofs use.
 pub mod MaskLaws
-pub mod UnionLaws
-pub mod ScanLaws
-pub mod SearchLaws
 pub mod ExchangeLaws
+pub mod ScanLaws
+pub mod UnionLaws
+pub mod SearchLaws
+pub mod SplitLaws
 pub mod CofactorLaws
 pub mod KnownLaws
-pub mod SplitLaws

@@ -81,10 +81,10 @@ module _ {pair : ℕ → ℕ → Bool} where
   -- what the search ends with, where the test is that of conditions and of joins
   module _ (is : ℕ → Bool) (joins : ℕ → ℕ → Bool)
       (same : (i j : ℕ) → (is i && (is j && joins (singleton i) (singleton j))) ≡ pair i j) where
-    pub first-no : {found : Pair} {i : ℕ} → Outer pair found i → 8 ≤ i → none ≡ firstPair is joins (numbersFrom 0 8)
+    first-no : {found : Pair} {i : ℕ} → Outer pair found i → 8 ≤ i → none ≡ firstPair is joins (numbersFrom 0 8)
     first-no o h = sym (first-none is joins 0 8 (λ a k le g u y. o .below a k (omega arith) g (omega arith) (subst T (same a k) y)))
 
-    pub first-pair : {found found′ : Pair} {i j : ℕ} → Outer pair found i → Inner pair found′ i j → j < 8 → pair i j ≡ true
+    first-pair : {found found′ : Pair} {i j : ℕ} → Outer pair found i → Inner pair found′ i j → j < 8 → pair i j ≡ true
         → sets (singleton i) (singleton j) ≡ firstPair is joins (numbersFrom 0 8)
     first-pair {i = i} {j = j} o n h e =
         sym

@@ -1,30 +1,16 @@
 -- What masks have together: the loops that unite them, and what that says of single masks.
-use Prim.Native.Nat.{ℕ, zero, suc, _+_, _/_, _%_, _<_}
+use Prim.Native.Nat.{ℕ, suc, _+_}
 use mathlib.Core.Path.{_≡_, refl, sym, _∙_, ap, ap₂, subst}
-use mathlib.Core.Bool.{Bool, true, false, not, _&&_, _||_}
+use mathlib.Core.Bool.{Bool, true, false, not, _&&_, _||_, Bool·not-not}
 use mathlib.Core.List.{List}
-use native.Mathlib.Nat.{mod-lt}
 use native.Mathlib.Numerals.{add-one}
-use native.Mathlib.Omega.{arith}
-use lib.Bits.{bitOr, or-shr, or-mod}
-use lib.Dec.{T, eqb}
+use lib.Bits.{bitOr}
+use lib.Dec.{T}
 use Rattle.rules.specs.Bytes.{pick, at}
 use Rattle.rules.specs.Cell.{has}
-use Rattle.laws.proofs.SetLaws.{has-none}
+use Rattle.laws.proofs.SetLaws.{has-none, has-or}
 use Rattle.laws.proofs.TestLaws.{passed, failed}
 use Rattle.masks.specs.Masks.{noneOf, noneHas, Union, every}
-
--- a union has what either set has
-pub has-or : (a b j : ℕ) → has (bitOr a b) j ≡ has a j || has b j
-has-or a b zero = ap (λ (x : ℕ). eqb x 1) (or-mod a b 1) ∙ digits (a % 2) (b % 2) (mod-lt a (omega arith)) (mod-lt b (omega arith))
-  where
-    digits : (x y : ℕ) → x < 2 → y < 2 → eqb (bitOr x y) 1 ≡ eqb x 1 || eqb y 1
-    digits zero y h g = refl
-    digits (suc zero) zero h g = refl
-    digits (suc zero) (suc zero) h g = refl
-    digits (suc zero) (suc (suc y)) h g = absurd (omega arith)
-    digits (suc (suc x)) y h g = absurd (omega arith)
-has-or a b (suc j) = ap (λ (x : ℕ). has x j) (or-shr a b 1) ∙ has-or (a / 2) (b / 2) j
 
 -- of no masks
 pub union-none : (t : List ℕ) (q : ℕ → Bool) → Union 0 t q 0
@@ -59,11 +45,7 @@ union-all {t = t} {q = q} {s = s} e u = subst (λ (k : ℕ). Union k t q s) e u
 -- none of the masks that pass the test has a condition exactly where the union does not
 pub none-with : {n : ℕ} {t : List ℕ} {q : ℕ → Bool} {s : ℕ} → Union n t q s
     → (j : ℕ) → noneOf n t (λ x. q x && has x j) ≡ not (has s j)
-none-with u j = sym (twice _) ∙ ap not (sym (u .has-is j))
-  where
-    twice : (b : Bool) → not (not b) ≡ b
-    twice true = refl
-    twice false = refl
+none-with u j = sym (Bool·not-not _) ∙ ap not (sym (u .has-is j))
 
 -- a condition that the union of all has, one mask has
 pub no-one-seen : {n : ℕ} {t : List ℕ} {s : ℕ} → Union n t every s → (i : ℕ) → T (has s i) → noneHas n t i ≡ false

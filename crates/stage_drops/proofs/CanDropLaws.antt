@@ -3,14 +3,13 @@ use Prim.Native.Nat.{ℕ, _<_}
 use mathlib.Core.Path.{_≡_, sym, _∙_, ap, ap₂}
 use mathlib.Core.Bool.{Bool, true, false}
 use mathlib.Core.List.{List}
-use native.Mathlib.Nat.{le-trans, zero-add}
-use lib.Dec.{leb, leb→le, le→leb}
-use Rattle.rules.specs.Bytes.{at, all}
-use Rattle.rules.specs.Cell.{cells, singleton, leastOver, greatestOver}
+use native.Mathlib.Nat.{zero-add}
+use lib.Dec.{leb}
+use Rattle.rules.specs.Bytes.{at}
+use Rattle.rules.specs.Cell.{cells, singleton, leastOver}
 use Rattle.rules.specs.Stage.{fits, merged}
-use Rattle.laws.proofs.TestLaws.{same-test}
-use Rattle.laws.proofs.TableLaws.{all-at, all-of, all-false}
-use Rattle.laws.proofs.OverLaws.{max-bound, min-bound, over-self, over-least, over-blind}
+use Rattle.laws.proofs.TableLaws.{all-false}
+use Rattle.laws.proofs.StageLaws.{drop-is}
 use Rattle.tables.specs.Part.{part, Shaped, stageAt}
 use Rattle.lines.specs.Along.{leastOn}
 use Rattle.lines.specs.declared.Along.{Along}
@@ -28,28 +27,12 @@ module _ (w ks : List ℕ) (i high : ℕ) where
   pub drop-at : {c : ℕ} {on : Along} → Shaped ks → Walks ks i c on → c < cells ks → leb (at w c) (leastOn w high c on) ≡ dropCell w ks i high c
   drop-at {c} shaped x h = ap₂ leb (ap (at w) (sym (zero-add c)) ∙ sym (part-at w 0 (cells ks) c h)) (walks-least shaped x w high h)
 
-  -- a table is below one that is blind to i where its greatest over i is
-  drop-is : all (cells ks) (dropCell w ks i high) ≡ fits ks (merged i (stageAt ks w 0 high))
-  drop-is =
-      let l = part w 0 (cells ks) in
-      let g = greatestOver ks (singleton i) l in
-      let u = leastOver ks (singleton i) (part w high (cells ks)) in
-      same-test (all (cells ks) (λ k. leb (at l k) (at u k))) (all (cells ks) (λ k. leb (at g k) (at u k)))
-      (λ t.
-      all-of (cells ks) (λ k. leb (at g k) (at u k))
-      (λ c hc.
-      le→leb _ _
-      (over-least max-bound ks (singleton i) l (at u) (over-blind min-bound ks (singleton i) (part w high (cells ks)))
-      (λ d hd. leb→le _ _ (all-at (cells ks) (λ k. leb (at l k) (at u k)) t d hd)) c hc)))
-      (λ t.
-      all-of (cells ks) (λ k. leb (at l k) (at u k))
-      (λ c hc. le→leb _ _ (le-trans (over-self max-bound ks (singleton i) l c hc) (leb→le _ _ (all-at (cells ks) (λ k. leb (at g k) (at u k)) t c hc)))))
-
+  -- the scan of all cells
   pub drop-passed : {c : ℕ} → c ≡ cells ks → ((k : ℕ) → k < c → dropCell w ks i high k ≡ true) → true ≡ fits ks (merged i (stageAt ks w 0 high))
-  drop-passed e h = sym (all-passed (cells ks) (dropCell w ks i high) e h) ∙ drop-is
+  drop-passed e h = sym (all-passed (cells ks) (dropCell w ks i high) e h) ∙ drop-is ks i (stageAt ks w 0 high .limits)
 
   pub drop-failed : (k : ℕ) → k < cells ks → dropCell w ks i high k ≡ false → false ≡ fits ks (merged i (stageAt ks w 0 high))
-  drop-failed k h e = sym (all-false (cells ks) (dropCell w ks i high) k h e) ∙ drop-is
+  drop-failed k h e = sym (all-false (cells ks) (dropCell w ks i high) k h e) ∙ drop-is ks i (stageAt ks w 0 high .limits)
 
 -- the upper limits start behind as many lower ones as there are cells
 pub limits-at : (ks w : List ℕ) (i : ℕ) {n : ℕ} → n ≡ cells ks → fits ks (merged i (stageAt ks w 0 n)) ≡ fits ks (merged i (frontStage ks w))

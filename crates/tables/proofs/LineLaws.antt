@@ -1,5 +1,5 @@
 -- Extremes along lines, as loops find them.
-use Prim.Native.Nat.{ℕ, zero, suc, _+_, _-_, _*_, _/_, _%_, _≤_, _<_}
+use Prim.Native.Nat.{ℕ, zero, suc, _+_, _*_, _/_, _%_, _≤_, _<_}
 use mathlib.Core.Path.{_≡_, refl, sym, _∙_, ap, ap₂, subst}
 use mathlib.Core.Bool.{Bool, true, false}
 use mathlib.Core.List.{List}
@@ -19,7 +19,7 @@ use Rattle.tables.specs.Line.{best, order, lineBest, Line, Spread, Block
 use Rattle.tables.proofs.PartLaws.{part-at}
 
 -- equal bytes have equal extremes
-over-along : (op : ℕ → ℕ → ℕ) (f g : ℕ → ℕ) (a b n : ℕ) → a ≡ b → ((v : ℕ) → v < n → f v ≡ g v) → overTo op (λ u. true) f a n ≡ overTo op (λ u. true) g b n
+pub over-along : (op : ℕ → ℕ → ℕ) (f g : ℕ → ℕ) (a b n : ℕ) → a ≡ b → ((v : ℕ) → v < n → f v ≡ g v) → overTo op (λ u. true) f a n ≡ overTo op (λ u. true) g b n
 over-along op f g a b zero e h = e
 over-along op f g a b (suc n) e h = ap₂ op (over-along op f g a b n e (λ v l. h v (omega arith))) (h n (omega arith))
 
