@@ -1,7 +1,7 @@
 -- The masks of both gates as `make` makes them: one condition after the other.
 use Prim.Native.Nat.{ℕ, _+_, _*_, _≤_, _<_}
 use mathlib.Core.Path.{_≡_, sym, _∙_, ap, ap₂, subst}
-use mathlib.Core.Bool.{Bool, false}
+use mathlib.Core.Bool.{false}
 use mathlib.Core.List.{List}
 use native.Mathlib.Omega.{arith}
 use lib.ListN.{length}
@@ -11,12 +11,12 @@ use Rattle.laws.proofs.CellLaws.{present-lt}
 use Rattle.laws.proofs.TableLaws.{at-tabulate}
 use Rattle.tables.specs.Part.{part, Laid}
 use Rattle.tables.proofs.PartLaws.{part-at}
-use Rattle.masks.specs.Masks.{aboveLeast, belowGreatest, Bits}
+use Rattle.masks.specs.Masks.{aboveLeast, belowGreatest}
 use Rattle.mask_making.specs.Making.{Space, Made}
 use Rattle.mask_making.specs.Marking.{HaveBit, Kept, CellMarked, Marked}
 use Rattle.mask_making.proofs.BitLaws.{Turn, turn-none, turn-bit, turn-skip, turn-more}
-use Rattle.mask_making.proofs.MarkLaws.{limits-part}
-use Rattle.mask_making.proofs.PairLaws.{kept-self, kept-then, cell-as}
+use Rattle.mask_making.proofs.KeptLaws.{kept-self, kept-then, kept-part}
+use Rattle.mask_making.proofs.PairLaws.{cell-as}
 
 -- the loop of `make` is at i
 pub record Building (w ks : List ℕ) (n i : ℕ) (w′ : List ℕ) : Type 0 where
@@ -48,9 +48,13 @@ module _ {w ks : List ℕ} {n i : ℕ} {v : List ℕ} (b : Building w ks n i v) 
     -- the bit of the next condition is in every mask
     pub building-bits : HaveBit v n bit 0
     building-bits =
+        let r = s .room in
+        let l = b .kept .len in
         record {
-          room = let r = s .room in let l = b .kept .len in omega arith;
-          cell = λ x le lt. record { first = omega (arith, turn-bit (b .first x lt) h); second = omega (arith, turn-bit (b .second x lt) h) };
+          cell = λ x le lt. record {
+            first = record { place = omega arith; least = omega (arith, turn-bit (b .first x lt) h) };
+            second = record { place = omega arith; least = omega (arith, turn-bit (b .second x lt) h) };
+          };
         }
 
     pub building-more : {w′ : List ℕ} → Marked v ks i n bit w′ → Building w ks n (i + 1) w′
@@ -63,8 +67,8 @@ module _ {w ks : List ℕ} {n i : ℕ} {v : List ℕ} (b : Building w ks n i v) 
       where
         cell : (x : ℕ) → x < n → CellMarked v n (singleton i) x (aboveLeast ks (part w 0 n) (part w n n) i x) (belowGreatest ks (part w 0 n) (part w n n) i x) w′
         cell x lt =
-            let low = limits-part s (b .kept) 0 (omega arith) in
-            let high = limits-part s (b .kept) n (omega arith) in
+            let low = kept-part s (b .kept) 0 (omega arith) in
+            let high = kept-part s (b .kept) n (omega arith) in
             cell-as (ap₂ (λ (l u : List ℕ). aboveLeast ks l u i x) low high) (ap₂ (λ (l u : List ℕ). belowGreatest ks l u i x) low high)
             (subst (λ (k : ℕ). Marked v ks i n k w′) e m .cell x lt)
 
@@ -87,7 +91,7 @@ made {w} {ks} {n} {v} {w′} {i} s long k b =
     }
   where
     low : part v 0 n ≡ part w 0 n
-    low = limits-part s k 0 (omega arith)
+    low = kept-part s k 0 (omega arith)
 
     high : part v n n ≡ part w n n
-    high = limits-part s k n (omega arith)
+    high = kept-part s k n (omega arith)

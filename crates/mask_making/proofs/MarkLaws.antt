@@ -1,7 +1,7 @@
 -- A condition's bit taken from the masks of both gates, by its extremes.
 use Prim.Native.Nat.{ℕ, _+_, _-_, _*_, _≤_, _<_}
 use mathlib.Core.Path.{_≡_, refl, sym, _∙_, ap, ap₂, subst}
-use mathlib.Core.Bool.{Bool, true, false}
+use mathlib.Core.Bool.{Bool}
 use mathlib.Core.List.{List, []}
 use mathlib.Core.Logic.{inl, inr}
 use native.Mathlib.Nat.{add-zero}
@@ -10,18 +10,16 @@ use lib.Dec.{ltb}
 use lib.ListN.{length}
 use lib.Seq.{take-all}
 use Rattle.rules.specs.Bytes.{pick, at, tabulate}
-use Rattle.rules.specs.Cell.{cells, singleton, over, leastOver, greatestOver}
-use Rattle.laws.proofs.LineLaws.{over-same}
+use Rattle.rules.specs.Cell.{singleton, leastOver, greatestOver}
 use Rattle.laws.proofs.TableLaws.{at-tabulate}
-use Rattle.tables.specs.Line.{best}
 use Rattle.tables.specs.Part.{part, Laid, Two}
 use Rattle.tables.proofs.LendLaws.{lent, lent-part, lent-length, back, laid-back}
-use Rattle.tables.proofs.LineLaws.{best-bound}
-use Rattle.tables.proofs.PartLaws.{part-at, part-length, part-same, laid-as, laid-then, laid-part, Filled, read-part}
+use Rattle.tables.proofs.PartLaws.{part-at, part-length, laid-as, laid-then, laid-part, Filled, read-part}
 use Rattle.rows.specs.Grades.{Reads}
 use Rattle.masks.specs.Masks.{aboveLeast, belowGreatest}
 use Rattle.mask_making.specs.Making.{Space}
-use Rattle.mask_making.specs.Marking.{less, Least, HaveBit, Kept, CellMarked, Marked}
+use Rattle.mask_making.specs.Marking.{less, AllHave, HaveBit, Marked}
+use Rattle.mask_making.proofs.KeptLaws.{holds-same, kept-part}
 
 -- the mask of cell x as `mark` leaves it
 abbrev pub marked : List ℕ → ℕ → ℕ → ℕ → ℕ → ℕ → ℕ
@@ -35,8 +33,8 @@ module _ {w : List ℕ} {to n x : ℕ} {f : ℕ → ℕ} {w′ : List ℕ} (l : 
   read : {from : ℕ} → Two w from to n → at w′ (from + x) ≡ at w (from + x)
   read {from} p = read-part p l (omega arith) x h ∙ part-at w from n x h
 
-  pub mark-fits : {b r : ℕ} → Least w to n b → r ≤ b → r ≤ at w′ (to + x)
-  mark-fits p e = omega (arith, stays, p .mask x h)
+  pub mark-fits : {b r : ℕ} → AllHave w to n b → r ≤ b → r ≤ at w′ (to + x)
+  mark-fits p e = omega (arith, stays, p .mask x h .least)
 
   pub mark-next : {low high : ℕ} (b r : ℕ) → Two w low to n → Two w high to n → r ≡ pick (ltb (at w′ (high + x)) (at w′ (low + x))) 0 b
       → at w′ (to + x) - r ≡ marked w low high to b x
@@ -73,30 +71,19 @@ module _ {w : List ℕ} {n : ℕ} (room : 5 * n ≤ length w) where
 
 -- the masks for max while extremes are laid at the fifth part, and those for min after that
 module _ {w : List ℕ} {n b : ℕ} {t v : List ℕ} (h : HaveBit w n b 0) (l : Laid w (4 * n) t n v) where
-  pub first-least : Least v (2 * n) n b
-  first-least = record { mask = λ x lt. omega (arith, h .cell x (omega arith) lt .first, l .before (2 * n + x) (omega arith)) }
+  pub first-have : AllHave v (2 * n) n b
+  first-have = record { mask = λ x lt. holds-same v (h .cell x (omega arith) lt .first) (l .len) (l .before (2 * n + x) (omega arith)) }
 
-  pub second-least : {f v′ g w′ : List ℕ} → Laid v (2 * n) f n v′ → Laid v′ (4 * n) g n w′ → Least w′ (3 * n) n b
-  second-least m k =
+  pub second-have : {f v′ g : List ℕ} (w′ : List ℕ) → Laid v (2 * n) f n v′ → Laid v′ (4 * n) g n w′ → AllHave w′ (3 * n) n b
+  second-have w′ m k =
       record {
         mask = λ x lt.
-            omega
-            (arith, h .cell x (omega arith) lt .second, l .before (3 * n + x) (omega arith), m .after (3 * n + x) (omega arith), k .before (3 * n + x) (omega arith));
+            let j = 3 * n + x in
+            holds-same w′ (h .cell x (omega arith) lt .second) (k .len ∙ m .len ∙ l .len)
+            (k .before j (omega arith) ∙ m .after j (omega arith) ∙ l .before j (omega arith));
       }
 
 module _ {w ks : List ℕ} {n : ℕ} (s : Space w ks n) where
-  pub space-same : (w′ : List ℕ) → Kept w n w′ → Space w′ ks n
-  space-same w′ k =
-      record {
-        shaped = s .shaped;
-        own = s .own;
-        room = let r = s .room in let e = k .len in omega arith;
-        ordered = λ c h. omega (arith, s .ordered c h, k .limits c (omega arith), k .limits (n + c) (omega arith));
-      }
-
-  pub limits-part : {w′ : List ℕ} → Kept w n w′ → (a : ℕ) → a ≤ n → part w′ a n ≡ part w a n
-  limits-part {w′} k a h = let r = s .room in part-same w w′ a n (omega arith) (k .len) (λ x lt. k .limits (a + x) (omega arith))
-
   -- a condition marked for max, then for min: its extremes are laid at the fifth part before each
   module _ (i b : ℕ) {v₁ v₂ v₃ w′ : List ℕ} (least : Laid w (4 * n) (leastOver ks (singleton i) (part w n n)) n v₁)
       (for-max : Laid v₁ (2 * n) (tabulate n (marked v₁ 0 (4 * n) (2 * n) b)) n v₂)
@@ -133,4 +120,4 @@ module _ {w ks : List ℕ} {n : ℕ} (s : Space w ks n) where
         }
       where
         lower : part v₂ 0 n ≡ part w 0 n
-        lower = limits-part (record { len = for-max .len ∙ least .len; limits = early }) 0 (omega arith)
+        lower = kept-part s (record { len = for-max .len ∙ least .len; limits = early }) 0 (omega arith)

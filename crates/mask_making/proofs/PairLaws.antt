@@ -1,7 +1,7 @@
 -- A condition of two values: its lines, marked pair by pair, row by row and block by block.
-use Prim.Native.Nat.{ℕ, _+_, _-_, _*_, _/_, _%_, _≤_, _<_, min, max}
-use mathlib.Core.Path.{_≡_, refl, sym, _∙_, ap, ap₂, subst}
-use mathlib.Core.Bool.{Bool, true, false}
+use Prim.Native.Nat.{ℕ, _+_, _-_, _*_, _≤_, _<_}
+use mathlib.Core.Path.{_≡_, refl, _∙_, ap, ap₂}
+use mathlib.Core.Bool.{Bool}
 use mathlib.Core.List.{List}
 use mathlib.Core.Logic.{⊎-elim, inl, inr}
 use native.Mathlib.Nat.{mul-suc}
@@ -9,23 +9,17 @@ use native.Mathlib.Numerals.{add-one}
 use native.Mathlib.Omega.{arith}
 use borrow.Author.Count.{below-more}
 use lib.Dec.{ltb}
-use lib.ListN.{length}
 use Rattle.rules.specs.Bytes.{pick, at}
 use Rattle.tables.proofs.LineLaws.{line-end}
-use Rattle.mask_making.specs.Marking.{less, Taken, HasBit, HaveBit, Kept, Same, CellMarked, Beside, LineMarked, OnlyLine, RowsMarked, BlocksMarked}
+use Rattle.mask_making.specs.Marking.{less, Taken, HasBit, HaveBit, Kept, Same, CellMarked, LineMarked, OnlyLine, RowsMarked, BlocksMarked}
+use Rattle.mask_making.proofs.KeptLaws.{holds-same, kept-self, kept-then}
 
--- what stays
-pub kept-self : (w : List ℕ) (n : ℕ) → Kept w n w
-kept-self w n = record { len = refl; limits = λ j h. refl }
-
-pub kept-then : {w : List ℕ} {n : ℕ} {w′ w″ : List ℕ} → Kept w n w′ → Kept w′ n w″ → Kept w n w″
-kept-then k l = record { len = l .len ∙ k .len; limits = λ j h. l .limits j h ∙ k .limits j h }
-
+-- a cell whose masks stay
 same-then : {w : List ℕ} {n x : ℕ} {w′ w″ : List ℕ} → Same w n x w′ → Same w′ n x w″ → Same w n x w″
 same-then s t = record { first = t .first ∙ s .first; second = t .second ∙ s .second }
 
-pub same-bit : {w : List ℕ} {n b x : ℕ} {w′ : List ℕ} → Same w n x w′ → HasBit w n b x → HasBit w′ n b x
-same-bit s h = let f = h .first in let g = h .second in let p = s .first in let q = s .second in record { first = omega arith; second = omega arith }
+pub same-bit : {w : List ℕ} {n b x : ℕ} {w′ : List ℕ} → Kept w n w′ → Same w n x w′ → HasBit w n b x → HasBit w′ n b x
+same-bit {w′ = w′} k s h = record { first = holds-same w′ (h .first) (k .len) (s .first); second = holds-same w′ (h .second) (k .len) (s .second) }
 
 -- a cell that is marked by tests that come out alike
 pub cell-as : {w : List ℕ} {n b x : ℕ} {p q p′ q′ : Bool} {w′ : List ℕ} → p ≡ p′ → q ≡ q′ → CellMarked w n b x p q w′ → CellMarked w n b x p′ q′ w′
@@ -119,11 +113,7 @@ blocks-none w n b step = record { kept = kept-self w n; done = λ k o h. absurd 
 module _ {w : List ℕ} {n b step k : ℕ} {w′ : List ℕ} (m : BlocksMarked w n b step k w′) (fits : step * 2 * k + step * 2 ≤ n) where
   -- the masks of the cells from the next block on
   pub next-bits : HaveBit w n b 0 → HaveBit w′ n b (step * 2 * k)
-  next-bits h =
-      record {
-        room = let r = h .room in let e = m .kept .len in omega arith;
-        cell = λ x le lt. same-bit (m .left x le lt) (h .cell x (omega arith) lt);
-      }
+  next-bits h = record { cell = λ x le lt. same-bit (m .kept) (m .left x le lt) (h .cell x (omega arith) lt) }
 
   pub blocks-more : {w″ : List ℕ} → RowsMarked w′ n b (step * 2 * k) step step w″ → BlocksMarked w n b step (k + 1) w″
   blocks-more {w″} r =

@@ -12,8 +12,8 @@ use Rattle.rules.specs.Bytes.{at}
 use Rattle.rules.specs.Cell.{Positive, cells, card, step, singleton, overTo, over}
 use Rattle.laws.proofs.CellLaws.{div-below}
 use Rattle.laws.proofs.LoopLaws.{over-steps}
-use Rattle.laws.proofs.TestLaws.{by-order, same-test}
-use Rattle.tables.specs.Line.{best, lineBest, Counts}
+use Rattle.laws.proofs.TestLaws.{by-order}
+use Rattle.tables.specs.Line.{best, Counts}
 use Rattle.tables.specs.Part.{part}
 use Rattle.tables.proofs.LineLaws.{best-bound, best-two, line-end, line-table}
 use Rattle.tables.proofs.PartLaws.{part-at}
@@ -22,7 +22,7 @@ use Rattle.rows.proofs.BlockLaws.{run-blocks, run-end}
 use Rattle.extremes.proofs.WalkLaws.{whole-along}
 use Rattle.masks.specs.Masks.{aboveLeast, belowGreatest}
 use Rattle.mask_making.specs.Making.{Space}
-use Rattle.mask_making.specs.Marking.{CellMarked, Beside, LineMarked, BlocksMarked, Marked}
+use Rattle.mask_making.specs.Marking.{CellMarked, Beside, BlocksMarked, Marked}
 use Rattle.mask_making.proofs.PairLaws.{cell-as}
 
 -- of two numbers, whichever is first

@@ -14,24 +14,28 @@ use Rattle.masks.specs.Masks.{aboveLeast, belowGreatest}
 abbrev pub less : Bool → ℕ → ℕ → ℕ
 less refuses bit mask = mask - pick refuses 0 bit
 
--- so much is taken from the byte at j
+-- the byte at j is at least b
+pub record Holds (w : List ℕ) (j b : ℕ) : Type 0 where
+  pub place : j < length w
+  pub least : b ≤ at w j
+
+-- b is taken from it
 pub record Taken (w : List ℕ) (j b : ℕ) (w′ : List ℕ) : Type 0 where
   pub len : length w′ ≡ length w
   pub here : at w′ j ≡ at w j - b
   pub other : (k : ℕ) → (k ≡ j → ⊥) → at w′ k ≡ at w k
 
--- n masks at a, from each of which b can be taken
-pub record Least (w : List ℕ) (a n b : ℕ) : Type 0 where
-  pub mask : (x : ℕ) → x < n → b ≤ at w (a + x)
+-- each of n masks at a has the bit b
+pub record AllHave (w : List ℕ) (a n b : ℕ) : Type 0 where
+  pub mask : (x : ℕ) → x < n → Holds w (a + x) b
 
--- the masks of cell x, for max and for min, from which b can be taken
+-- the masks of cell x have it, for max and for min
 pub record HasBit (w : List ℕ) (n b x : ℕ) : Type 0 where
-  pub first : b ≤ at w (2 * n + x)
-  pub second : b ≤ at w (3 * n + x)
+  pub first : Holds w (2 * n + x) b
+  pub second : Holds w (3 * n + x) b
 
--- those of the cells from a on
+-- those of every cell from a on
 pub record HaveBit (w : List ℕ) (n b a : ℕ) : Type 0 where
-  pub room : 4 * n ≤ length w
   pub cell : (x : ℕ) → a ≤ x → x < n → HasBit w n b x
 
 -- the limits are as they were
@@ -49,7 +53,7 @@ pub record CellMarked (w : List ℕ) (n b x : ℕ) (p q : Bool) (w′ : List ℕ
   pub first : at w′ (2 * n + x) ≡ less p b (at w (2 * n + x))
   pub second : at w′ (3 * n + x) ≡ less q b (at w (3 * n + x))
 
--- y is the only other cell of x's line: as its own limits are in order, x refuses the condition if its grade is beyond the limit of y
+-- the same where y is the only other cell of x's line: its own limits, which are in order, never make x refuse the condition
 abbrev pub Beside : List ℕ → ℕ → ℕ → ℕ → ℕ → List ℕ → Type 0
 Beside w n b x y w′ = CellMarked w n b x (ltb (at w (n + y)) (at w x)) (ltb (at w (n + x)) (at w y)) w′
 
@@ -79,4 +83,4 @@ pub record BlocksMarked (w : List ℕ) (n b step count : ℕ) (w′ : List ℕ) 
 -- condition i, whose bit is b, at every cell
 pub record Marked (w ks : List ℕ) (i n b : ℕ) (w′ : List ℕ) : Type 0 where
   pub kept : Kept w n w′
-  pub cell : (x : ℕ) → x < n → let l = part w 0 n in let u = part w n n in CellMarked w n b x (aboveLeast ks l u i x) (belowGreatest ks l u i x) w′
+  pub cell : (x : ℕ) → x < n → CellMarked w n b x (aboveLeast ks (part w 0 n) (part w n n) i x) (belowGreatest ks (part w 0 n) (part w n n) i x) w′

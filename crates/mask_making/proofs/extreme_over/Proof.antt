@@ -27,19 +27,23 @@ part-over-one-end c = search needs
 
 over-one-requires : tie.Need-over-one-requires
 over-one-requires c κs =
-    let b = c .before .before .before .before .before .before .before in
+    let l = c .before .before .before .before in
+    let b = l .before .before .before in
+    let s = b .args in
     let p = b .pre .3 .dst in
-    let e = c .before .before .before .before .copy .ensures .len in
-    (b .pre .0, b .pre .2, b .pre .1, lent-reads _ (b .args .to) (b .args .n) (omega arith))
+    let e = l .copy .ensures .len in
+    (b .pre .0, b .pre .2, b .pre .1, lent-reads _ (s .to) (s .n) (omega arith))
 
 same-length : tie.Need-same-length
 same-length c = search needs
 
 returns : tie.Need-returns
 returns c =
-    let b = c .before .before .before .before .before .before .before .before .before .before in
+    let o = c .before .before in
+    let l = o .before .before .before .before .before in
+    let b = l .before .before .before in
     let s = b .args in
-    copied (over (best (s .greatest)) (s .ks) (singleton (s .i))) (b .pre .3) (c .before .before .before .before .before .before .before .copy .ensures) (c .before .before .over-one .ensures)
+    copied (over (best (s .greatest)) (s .ks) (singleton (s .i))) (b .pre .3) (l .copy .ensures) (o .over-one .ensures)
 
 pub extreme-over-spec : {M : Type 1} → statement M
 extreme-over-spec =

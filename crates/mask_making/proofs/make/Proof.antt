@@ -9,12 +9,10 @@ use lib.ListN.{getD}
 use Rattle.rules.specs.Cell.{step}
 use Rattle.laws.proofs.LoopLaws.{card-read, is-absent, step-start, step-le, step-more}
 use Rattle.mask_making.specs.Making.{Space}
-use Rattle.mask_making.proofs.MarkLaws.{space-same}
+use Rattle.mask_making.proofs.KeptLaws.{kept-space}
 use Rattle.mask_making.proofs.MakeLaws.{Building, filled-kept, building-none, building-skip, building-bits, building-more, made}
 use Rattle.mask_making.proofs.make.Statement.{statement}
 use Rattle.mask_making.proofs.make.Tie as tie
-use Rattle.mask_making.proofs.make.Reads as reads
-use Rattle.mask_making.proofs.make.Lts as lts
 
 
 abbrev Inv-loop : tie.InvT-loop
@@ -37,7 +35,7 @@ loop-holds c =
     let b = c .before .before .before .before .before in
     let l = c .before .before .fill .ensures in
     let ks : List ℕ = b .args .t2 in
-    (search needs, sym (step-start ks), space-same (b .pre) _ (filled-kept l), building-none l ks)
+    (search needs, sym (step-start ks), kept-space (b .pre) (filled-kept l), building-none l ks)
 
 array-read-card : tie.Need-array-read-card Inv-loop μ-loop
 array-read-card c = search needs
@@ -56,7 +54,7 @@ mark-condition-requires c κs =
     let p = l .inv .2 in (
       record { place = h; count = p .own; step-is = l .inv .1 },
       card-read (s .t2) (l .i) (search needs),
-      space-same p (l .w) (l .inv .3 .kept),
+      kept-space p (l .inv .3 .kept),
       building-bits (l .inv .3) p h (c .singleton .ensures),
     )
 

@@ -26,7 +26,10 @@ loop-holds : tie.Need-loop-holds Inv-loop μ-loop
 loop-holds c = (search needs, blocks-none _ _ _ _)
 
 mul-mark-rows : tie.Need-mul-mark-rows Inv-loop μ-loop
-mul-mark-rows c = let p = c .before .before .before .before .pre .0 in let f = p .few in omega (arith, run-end p (c .before .loop-test .taken))
+mul-mark-rows c =
+    let p = c .before .before .before .before .pre .0 in
+    let f = p .few in
+    omega (arith, run-end p (c .before .loop-test .taken))
 
 mark-rows-requires : tie.Need-mark-rows-requires Inv-loop μ-loop
 mark-rows-requires c κs =
@@ -41,7 +44,11 @@ loop-less : tie.Need-loop-less Inv-loop μ-loop
 loop-less c = search needs
 
 loop-again : tie.Need-loop-again Inv-loop μ-loop
-loop-again c = (search needs, blocks-more (c .before .before .before .before .before .loop .inv .1) (run-end (c .before .before .before .before .before .before .before .pre .0) (c .before .before .before .before .loop-test .taken)) (c .before .before .mark-rows .ensures))
+loop-again c =
+    let m = c .before .before in
+    let i = m .before .before in
+    let l = i .before .loop in
+    (search needs, blocks-more (l .inv .1) (run-end (i .before .before .before .pre .0) (i .loop-test .taken)) (m .mark-rows .ensures))
 
 same-length : tie.Need-same-length Inv-loop μ-loop
 same-length c = c .before .loop .inv .1 .kept .len

@@ -3,7 +3,7 @@ use Prim.Native.Nat.{_*_, _≤_}
 use native.Mathlib.Omega.{arith}
 use borrow.Author.Needs.{needs}
 use lib.ListN.{length}
-use Rattle.mask_making.proofs.MarkLaws.{part-before, part-behind, first-least, second-least, lines-marked}
+use Rattle.mask_making.proofs.MarkLaws.{part-before, part-behind, first-have, second-have, lines-marked}
 use Rattle.mask_making.proofs.mark_lines.Statement.{statement}
 use Rattle.mask_making.proofs.mark_lines.Tie as tie
 
@@ -26,26 +26,28 @@ mul-mark-2 c = search needs
 
 mark-requires : tie.Need-mark-requires
 mark-requires c κs =
-    let b = c .before .before .before .before .before .before in
+    let e = c .before .before .before in
+    let b = e .before .before .before in
     let n = b .args .n in
-    let e = c .before .before .before .extreme-over in
-    let q = e .ensures .len in
+    let l = e .extreme-over .ensures in
+    let q = l .len in
     let p = b .pre .1 .room in
-    let r : 5 * n ≤ length (e .last .0) = omega arith in
-    (part-before r 0 (2 * n) (omega arith) (omega arith), part-behind r (4 * n) (2 * n) (omega arith) (omega arith), first-least (b .pre .2) (e .ensures))
+    let r : 5 * n ≤ length (e .extreme-over .last .0) = omega arith in
+    (part-before r 0 (2 * n) (omega arith) (omega arith), part-behind r (4 * n) (2 * n) (omega arith) (omega arith), first-have (b .pre .2) l)
 
 mul-extreme-over-2 : tie.Need-mul-extreme-over-2
 mul-extreme-over-2 c = search needs
 
 extreme-over-requires-2 : tie.Need-extreme-over-requires-2
 extreme-over-requires-2 c κs =
-    let b = c .before .before .before .before .before .before .before .before .before .before in
+    let m = c .before .before .before in
+    let e = m .before .before .before .before in
+    let b = e .before .before .before in
     let n = b .args .n in
-    let m = c .before .before .before .mark in
-    let q = m .ensures .len in
-    let e = c .before .before .before .before .before .before .before .extreme-over .ensures .len in
+    let x = m .mark .ensures .len in
+    let y = e .extreme-over .ensures .len in
     let p = b .pre .1 .room in
-    let r : 5 * n ≤ length (m .last .0) = omega arith in
+    let r : 5 * n ≤ length (m .mark .last .0) = omega arith in
     (b .pre .0, b .pre .1 .shaped, b .pre .1 .own, part-before r 0 (4 * n) (omega arith) (omega arith))
 
 mul-mark-3 : tie.Need-mul-mark-3
@@ -56,19 +58,19 @@ mul-mark-4 c = search needs
 
 mark-requires-2 : tie.Need-mark-requires-2
 mark-requires-2 c κs =
-    let b = c .before .before .before .before .before .before .before .before .before .before .before .before .before .before in
+    let f = c .before .before .before in
+    let m = f .before .before .before .before in
+    let e = m .before .before .before .before in
+    let b = e .before .before .before in
     let n = b .args .n in
-    let l = c .before .before .before .extreme-over2 in
-    let m = c .before .before .before .before .before .before .before .mark .ensures in
-    let e = c .before .before .before .before .before .before .before .before .before .before .before .extreme-over .ensures in
-    let x = l .ensures .len in
-    let y = m .len in
-    let z = e .len in
+    let x = f .extreme-over2 .ensures .len in
+    let y = m .mark .ensures .len in
+    let z = e .extreme-over .ensures .len in
     let p = b .pre .1 .room in
-    let r : 5 * n ≤ length (l .last .0) = omega arith in (
+    let r : 5 * n ≤ length (f .extreme-over2 .last .0) = omega arith in (
       part-behind r (4 * n) (3 * n) (omega arith) (omega arith),
       part-before r n (3 * n) (omega arith) (omega arith),
-      second-least (b .pre .2) e m (l .ensures),
+      second-have (b .pre .2) (e .extreme-over .ensures) _ (m .mark .ensures) (f .extreme-over2 .ensures),
     )
 
 same-length : tie.Need-same-length
@@ -76,8 +78,12 @@ same-length c = search needs
 
 returns : tie.Need-returns
 returns c =
-    let b = c .before .before .before .before .before .before .before .before .before .before .before .before .before .before .before .before .before in
-    lines-marked (b .pre .1) (b .args .i) (b .args .bit) (c .before .before .before .before .before .before .before .before .before .before .before .before .before .before .extreme-over .ensures) (c .before .before .before .before .before .before .before .before .before .before .mark .ensures) (c .before .before .before .before .before .before .extreme-over2 .ensures) (c .before .before .mark2 .ensures)
+    let k = c .before .before in
+    let f = k .before .before .before .before in
+    let m = f .before .before .before .before in
+    let e = m .before .before .before .before in
+    let b = e .before .before .before in
+    lines-marked (b .pre .1) (b .args .i) (b .args .bit) (e .extreme-over .ensures) (m .mark .ensures) (f .extreme-over2 .ensures) (k .mark2 .ensures)
 
 pub mark-lines-spec : {M : Type 1} → statement M
 mark-lines-spec =

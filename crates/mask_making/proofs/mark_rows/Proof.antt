@@ -35,13 +35,11 @@ mark-two-requires c κs =
     let h = c .before .loop-test .taken in
     let f = b .pre .0 in
     let p = b .pre .1 in
-    let r = p .room in
-    let e = l .inv .1 .kept .len in (
+    let k = l .inv .1 .kept in (
       omega arith,
       omega arith,
-      omega arith,
-      same-bit (next-first (l .inv .1) h f) (p .cell (s .a + l .o) (omega arith) (omega arith)),
-      same-bit (next-second (l .inv .1) h f) (p .cell (s .a + s .step + l .o) (omega arith) (omega arith)),
+      same-bit k (next-first (l .inv .1) h f) (p .cell (s .a + l .o) (omega arith) (omega arith)),
+      same-bit k (next-second (l .inv .1) h f) (p .cell (s .a + s .step + l .o) (omega arith) (omega arith)),
     )
 
 add-o : tie.Need-add-o Inv-loop μ-loop
@@ -51,7 +49,11 @@ loop-less : tie.Need-loop-less Inv-loop μ-loop
 loop-less c = search needs
 
 loop-again : tie.Need-loop-again Inv-loop μ-loop
-loop-again c = let b = c .before .before .before .before .before .before .before in (search needs, rows-more (c .before .before .before .before .before .loop .inv .1) (c .before .before .before .before .loop-test .taken) (b .pre .0) (c .before .before .mark-two .ensures))
+loop-again c =
+    let m = c .before .before in
+    let i = m .before .before in
+    let l = i .before .loop in
+    (search needs, rows-more (l .inv .1) (i .loop-test .taken) (i .before .before .before .pre .0) (m .mark-two .ensures))
 
 same-length : tie.Need-same-length Inv-loop μ-loop
 same-length c = c .before .loop .inv .1 .kept .len

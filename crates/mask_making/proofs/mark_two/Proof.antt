@@ -1,7 +1,8 @@
 -- `mask_making::mark_two` meets its contract.
-use Prim.Native.Nat.{_+_, _*_}
+use mathlib.Core.Path.{_∙_}
 use native.Mathlib.Omega.{arith}
 use borrow.Author.Needs.{needs}
+use Rattle.mask_making.proofs.KeptLaws.{holds-same, holds-less}
 use Rattle.mask_making.proofs.PairLaws.{line-taken}
 use Rattle.mask_making.proofs.mark_two.Statement.{statement}
 use Rattle.mask_making.proofs.mark_two.Tie as tie
@@ -38,7 +39,9 @@ add-take-bit : tie.Need-add-take-bit
 add-take-bit c = search needs
 
 take-bit-requires : tie.Need-take-bit-requires
-take-bit-requires c κs = search needs
+take-bit-requires c κs =
+    let d = c .before in
+    holds-less (d .before .before .before .before .before .before .before .pre .2 .first) (d .before .before .before .bit-unless-above .ensures .1)
 
 mul-take-bit-2 : tie.Need-mul-take-bit-2
 mul-take-bit-2 c = search needs
@@ -48,11 +51,9 @@ add-take-bit-2 c = search needs
 
 take-bit-requires-2 : tie.Need-take-bit-requires-2
 take-bit-requires-2 c κs =
-    let b = c .before .before .before .before .before .before .before .before .before .before .before .before in
-    let s = b .args in
-    let i = b .pre .0 in
-    let j = b .pre .1 in
-    (search needs, omega (arith, c .before .before .before .take-bit .ensures .other (2 * s .n + s .b) (λ q. omega arith)))
+    let t = c .before .before .before .take-bit .ensures in
+    let d = c .before .before .before .before .before in
+    holds-same _ (holds-less (d .before .before .before .before .before .before .before .pre .3 .first) (d .bit-unless-above2 .ensures .1)) (t .len) (t .other _ (λ q. omega arith))
 
 mul-take-bit-3 : tie.Need-mul-take-bit-3
 mul-take-bit-3 c = search needs
@@ -62,11 +63,10 @@ add-take-bit-3 c = search needs
 
 take-bit-requires-3 : tie.Need-take-bit-requires-3
 take-bit-requires-3 c κs =
-    let b = c .before .before .before .before .before .before .before .before .before .before .before .before .before .before .before .before in
-    let s = b .args in
-    let i = b .pre .0 in
-    let j = b .pre .1 in
-    (search needs, omega (arith, c .before .before .before .take-bit2 .ensures .other (3 * s .n + s .a) (λ q. omega arith), c .before .before .before .before .before .before .before .take-bit .ensures .other (3 * s .n + s .a) (λ q. omega arith)))
+    let u = c .before .before .before .take-bit2 .ensures in
+    let t = c .before .before .before .before .before .before .before .take-bit .ensures in
+    let d = c .before .before .before .before .before .before .before .before .before in
+    holds-same _ (holds-less (d .before .before .before .before .before .before .before .pre .2 .second) (d .bit-unless-above2 .ensures .1)) (u .len ∙ t .len) (u .other _ (λ q. omega arith) ∙ t .other _ (λ q. omega arith))
 
 mul-take-bit-4 : tie.Need-mul-take-bit-4
 mul-take-bit-4 c = search needs
@@ -76,20 +76,27 @@ add-take-bit-4 c = search needs
 
 take-bit-requires-4 : tie.Need-take-bit-requires-4
 take-bit-requires-4 c κs =
-    let b = c .before .before .before .before .before .before .before .before .before .before .before .before .before .before .before .before .before .before .before .before in
-    let s = b .args in
-    let i = b .pre .0 in
-    let j = b .pre .1 in
-    (search needs, omega (arith, c .before .before .before .take-bit3 .ensures .other (3 * s .n + s .b) (λ q. omega arith), c .before .before .before .before .before .before .before .take-bit2 .ensures .other (3 * s .n + s .b) (λ q. omega arith), c .before .before .before .before .before .before .before .before .before .before .before .take-bit .ensures .other (3 * s .n + s .b) (λ q. omega arith)))
+    let v = c .before .before .before .take-bit3 .ensures in
+    let u = c .before .before .before .before .before .before .before .take-bit2 .ensures in
+    let t = c .before .before .before .before .before .before .before .before .before .before .before .take-bit .ensures in
+    let d = c .before .before .before .before .before .before .before .before .before .before .before .before .before in
+    holds-same _ (holds-less (d .before .before .before .before .before .before .before .pre .3 .second) (d .before .before .before .bit-unless-above .ensures .1)) (v .len ∙ u .len ∙ t .len)
+    (v .other _ (λ q. omega arith) ∙ u .other _ (λ q. omega arith) ∙ t .other _ (λ q. omega arith))
 
 same-length : tie.Need-same-length
 same-length c = search needs
 
 returns : tie.Need-returns
 returns c =
-    let b = c .before .before .before .before .before .before .before .before .before .before .before .before .before .before .before .before .before .before .before .before .before .before .before in
-    line-taken (b .pre .0) (b .pre .1) (c .before .before .before .before .before .before .before .before .before .before .before .before .before .before .before .before .before .before .before .bit-unless-above .ensures .0) (c .before .before .before .before .before .before .before .before .before .before .before .before .before .before .before .before .bit-unless-above2 .ensures .0) (c .before .before .before .before .before .before .before .before .before .before .before .before .before .before .take-bit .ensures) (c .before .before .before .before .before .before .before .before .before .before .take-bit2 .ensures)
-    (c .before .before .before .before .before .before .take-bit3 .ensures) (c .before .before .take-bit4 .ensures)
+    let x = c .before .before in
+    let v = x .before .before .before .before in
+    let u = v .before .before .before .before in
+    let t = u .before .before .before .before in
+    let down = t .before .before in
+    let up = down .before .before .before in
+    let b = up .before .before .before .before in
+    line-taken (b .pre .0) (b .pre .1) (up .bit-unless-above .ensures .0) (down .bit-unless-above2 .ensures .0) (t .take-bit .ensures) (u .take-bit2 .ensures)
+    (v .take-bit3 .ensures) (x .take-bit4 .ensures)
 
 pub mark-two-spec : {M : Type 1} → statement M
 mark-two-spec =

@@ -23,7 +23,7 @@ returns c =
     let w = b .args .w .now in
     record {
       len = length-set w _ _;
-      here = getD-set-same w (b .args .j) _ 0 (b .pre .0);
+      here = getD-set-same w (b .args .j) _ 0 (b .pre .place);
       other = λ k ne. getD-set-other w (b .args .j) k _ 0 ne;
     }
 
