@@ -15,7 +15,7 @@ use Rattle.laws.proofs.TestLaws.{by-test, and-l, cond-ok, pick-ok}
 use Rattle.laws.proofs.SetLaws.{singleton-has}
 use Rattle.laws.proofs.CellLaws.{card-out, present-lt, not-above, sub-present}
 use Rattle.laws.proofs.LowestLaws.{present-width, lowest-present, lowest-width, none-left, some-left, narrow-left}
-use Rattle.laws.proofs.StageLaws.{drops-shrunk}
+use Rattle.laws.proofs.StageLaws.{drops-none, drops-shrunk}
 use Rattle.places.specs.declared.sets.Condition.{Condition}
 use Rattle.places.specs.Conditions.{IsLowest}
 use Rattle.tables.specs.Line.{Counts}
@@ -28,6 +28,9 @@ step-lowest (k ∷ ks) p =
     pick-ok (λ (i : ℕ). step (k ∷ ks) i ≡ 1) (ltb 1 k) 0 (suc (lowest ks)) (λ y. refl)
     (λ n. ap₂ (λ (a b : ℕ). a * b) (le-antisymm (not-above k n) (p .0)) (step-lowest ks (p .1)))
 
+pub none-dropped : (x : Stage) → width (x .ks) ≡ 0 → left x ≡ x
+none-dropped x e = drops-none x (λ i t f. omega (arith, present-width (x .ks) i t)) (numbersFrom 0 (length (x .ks)))
+
 -- a condition that is not there is not dropped
 drop-gone : (i : ℕ) (x : Stage) → (T (present (x .ks) i) → ⊥) → dropOne i x ≡ x
 drop-gone i x n =
@@ -37,9 +40,6 @@ drop-gone i x n =
 drops-gone : (a n : ℕ) (x : Stage) → ((j : ℕ) → a ≤ j → T (present (x .ks) j) → ⊥) → drops (numbersFrom a n) x ≡ x
 drops-gone a zero x h = refl
 drops-gone a (suc n) x h = ap (drops (numbersFrom (suc a) n)) (drop-gone a x (h a (omega arith))) ∙ drops-gone (suc a) n x (λ j l. h j (omega arith))
-
-pub none-dropped : (x : Stage) → width (x .ks) ≡ 0 → left x ≡ x
-none-dropped x e = drops-gone 0 (length (x .ks)) x (λ j l t. omega (arith, present-width (x .ks) j t))
 
 -- i is the only condition that is there
 module _ (i : ℕ) (x : Stage) (p : Positive (x .ks)) (only : (j : ℕ) → T (present (x .ks) j) → j ≡ i) where

@@ -64,11 +64,13 @@ fn reduce(w: &mut [u8], ks: [u8; PLACES], m: u8, n: usize) -> Plan
     ensures { λ r. ⌜ Planned m ks (now (w .entry)) r (now (w .exit)) ⌝ }
 {
     let kept = stage_drops::drop_all(w, ks, n);
-    let low = sets::lowest(kept.places);
-    let choice = choose_left(w, kept.places, m, kept.cells, low);
+    let places = kept.places;
+    let cells = kept.cells;
+    let low = sets::lowest(places);
+    let choice = choose_left(w, places, m, cells, low);
     Plan {
-        places: kept.places,
-        cells: kept.cells,
+        places,
+        cells,
         low,
         choice,
     }
@@ -124,7 +126,7 @@ fn plan_known(w: &mut [u8], ks: [u8; PLACES], m: u8, n: usize, low: Condition) -
 
 // The plan of the stage over ks, of n cells, whose limits are at the front of the work buffer and, where they are
 // known, its masks behind them. A split finds both there; a join finds what its blocks are made from.
-pub fn plan(w: &mut [u8], ks: [u8; PLACES], m: u8, n: usize, known: bool) -> Plan
+pub fn plan_stage(w: &mut [u8], ks: [u8; PLACES], m: u8, n: usize, known: bool) -> Plan
     requires { ⌜ Room (now w) ks n × Proper m (frontStage ks (now w)) × (known ≡ true → Known m ks (now w)) ⌝ }
     ensures { λ r. ⌜ Planned m ks (now (w .entry)) r (now (w .exit)) ⌝ }
 {
