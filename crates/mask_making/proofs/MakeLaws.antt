@@ -79,7 +79,8 @@ module _ {w ks : List ℕ} {n i : ℕ} {v : List ℕ} (b : Building w ks n i v) 
             (subst (λ (k : ℕ). Marked v ks i n k w′) e m .cell x lt)
 
 -- all of them
-pub made : {w ks : List ℕ} {n : ℕ} {v w′ : List ℕ} {i : ℕ} → Space w ks n → length ks ≤ i → Kept w n v → Building v ks n i w′ → Made w ks n w′
+pub made : {w ks : List ℕ} {n : ℕ} {v w′ : List ℕ} {i : ℕ} → Space w ks n → length ks ≤ i → Kept w n v → Building v ks n i w′
+    → Made w ks n w′
 made {w} {ks} {n} {v} {w′} {i} s long k b =
     record {
       len = b .kept .len ∙ k .len;

@@ -54,7 +54,8 @@ over-counted greatest ks f i x stp crd p h es ec = rw (es, ec) (over-steps (best
 module _ {w ks : List ℕ} {n i stp : ℕ} (s : Space w ks n) (c : Counts ks i n stp) (two : card ks i ≡ 2) where
   -- the extremes over the condition at x, of the tables at any part, are those of x and y
   abbrev Mate : ℕ → ℕ → Type 0
-  Mate x y = (greatest : Bool) (a : ℕ) → at (over (best greatest) ks (singleton i) (part w a n)) x ≡ best greatest (at w (a + x)) (at w (a + y))
+  Mate x y =
+      (greatest : Bool) (a : ℕ) → at (over (best greatest) ks (singleton i) (part w a n)) x ≡ best greatest (at w (a + x)) (at w (a + y))
 
   -- so it is for the two cells of line o of block k
   module _ (k o : ℕ) (ho : o < stp) (fits : stp * 2 * k + stp * 2 ≤ n) where
@@ -85,19 +86,21 @@ module _ {w ks : List ℕ} {n i stp : ℕ} (s : Space w ks n) (c : Counts ks i n
     second-mate greatest a =
         extreme greatest a second 1 (omega arith) (omega (arith, mul-one stp)) ∙ best-turn greatest (at w (a + first)) (at w (a + second))
 
+  -- cell x, marked by the extremes
   abbrev Cell : ℕ → ℕ → List ℕ → Type 0
   Cell b x w′ = CellMarked w n b x (aboveLeast ks (part w 0 n) (part w n n) i x) (belowGreatest ks (part w 0 n) (part w n n) i x) w′
 
-  -- a cell x that is marked beside y is then marked by the extremes
+  -- that is what it is if it is marked beside y
   beside-cell : {b x : ℕ} (y : ℕ) {w′ : List ℕ} → x < n → Mate x y → Beside w n b x y w′ → Cell b x w′
   unfolding aboveLeast belowGreatest
   beside-cell {b} {x} y hx e m =
       let z = zero-add x in
-      let lower : at (part w 0 n) x ≡ at w x = part-at w 0 n x hx ∙ ap (at w) z in
-      let greatest : at (over max ks (singleton i) (part w 0 n)) x ≡ max (at w x) (at w y) =
-      e true 0 ∙ ap₂ (λ (p q : ℕ). max (at w p) (at w q)) z (zero-add y) in
-      cell-as (below-least (at w x) (at w (n + x)) (at w (n + y)) (s .ordered x hx) ∙ sym (ap₂ ltb (e false n) lower))
-      (above-greatest (at w (n + x)) (at w x) (at w y) (s .ordered x hx) ∙ sym (ap₂ ltb (part-at w n n x hx) greatest)) m
+      cell-as
+      (below-least (at w x) (at w (n + x)) (at w (n + y)) (s .ordered x hx)
+      ∙ sym (ap₂ ltb (e false n) (part-at w 0 n x hx ∙ ap (at w) z)))
+      (above-greatest (at w (n + x)) (at w x) (at w y) (s .ordered x hx)
+      ∙ sym (ap₂ ltb (part-at w n n x hx) (e true 0 ∙ ap₂ (λ (p q : ℕ). max (at w p) (at w q)) z (zero-add y))))
+      m
 
   -- the blocks of the condition, and all of them marked
   pub two-blocks : length ks ≡ 8 → Several (stp * 2) n
@@ -110,6 +113,9 @@ module _ {w ks : List ℕ} {n i stp : ℕ} (s : Space w ks n) (c : Counts ks i n
     where
       size : ℕ
       size = stp * 2
+
+      here : {x y : ℕ} → x ≡ y → Cell b x w′ → Cell b y w′
+      here e m = subst (λ (z : ℕ). Cell b z w′) e m
 
       go : (x : ℕ) → x < n → Cell b x w′
       go x hx =
@@ -124,7 +130,7 @@ module _ {w ks : List ℕ} {n i stp : ℕ} (s : Space w ks n) (c : Counts ks i n
           let o = d - stp in
           let ho : o < stp = omega arith in
           let f : size * k + stp + o ≡ x = omega arith in
-          subst (λ (y : ℕ). Cell b y w′) f (beside-cell (size * k + o) (omega arith) (second-mate k o ho fits) (m .done k o hk ho .two)))
+          here f (beside-cell (size * k + o) (omega arith) (second-mate k o ho fits) (m .done k o hk ho .two)))
           (λ lt.
           let f : size * k + d ≡ x = omega arith in
-          subst (λ (y : ℕ). Cell b y w′) f (beside-cell (size * k + stp + d) (omega arith) (first-mate k d lt fits) (m .done k d hk lt .one)))
+          here f (beside-cell (size * k + stp + d) (omega arith) (first-mate k d lt fits) (m .done k d hk lt .one)))

@@ -63,7 +63,8 @@ loop-again c =
     let d = b .pre .0 .dst in
     let h : l .x < b .args .n = omega arith in
     let r = c .bit-unless-above in
-    (search needs, filled-more _ (l .inv .1) (omega arith) (mark-next (l .inv .1) h (b .args .bit) (r .result) (b .pre .0) (b .pre .1) (r .ensures .0)))
+    let e = mark-next (l .inv .1) h (b .args .bit) (r .result) (b .pre .0) (b .pre .1) (r .ensures .0) in
+    (search needs, filled-more _ (l .inv .1) (omega arith) e)
 
 same-length : tie.Need-same-length Inv-loop μ-loop
 same-length c = search needs

@@ -79,10 +79,12 @@ take-bit-requires-4 : tie.Need-take-bit-requires-4
 take-bit-requires-4 c κs =
     let v = c .before .before .before .take-bit3 .ensures in
     let u = c .before .before .before .before .before .before .before .take-bit2 .ensures in
-    let t = c .before .before .before .before .before .before .before .before .before .before .before .take-bit .ensures in
-    let d = c .before .before .before .before .before .before .before .before .before .before .before .before .before .before .before .before in
+    let f = c .before .before .before .before .before .before .before .before .before .before .before in
+    let t = f .take-bit .ensures in
+    let d = f .before .before .before .before .before in
     let h = holds-less (d .before .before .before .before .pre .3 .second) (d .bit-unless-above .ensures .1) in
-    holds-same _ h (v .len ∙ u .len ∙ t .len) (v .other _ (λ q. omega arith) ∙ u .other _ (λ q. omega arith) ∙ t .other _ (λ q. omega arith))
+    holds-same _ h (v .len ∙ u .len ∙ t .len)
+    (v .other _ (λ q. omega arith) ∙ u .other _ (λ q. omega arith) ∙ t .other _ (λ q. omega arith))
 
 same-length : tie.Need-same-length
 same-length c = search needs
