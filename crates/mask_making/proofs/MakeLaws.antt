@@ -6,7 +6,7 @@ use mathlib.Core.List.{List}
 use native.Mathlib.Omega.{arith}
 use lib.ListN.{length}
 use Rattle.rules.specs.Bytes.{at, tabulate}
-use Rattle.rules.specs.Cell.{cells, present, has, singleton}
+use Rattle.rules.specs.Cell.{present, has, singleton}
 use Rattle.laws.proofs.CellLaws.{present-lt}
 use Rattle.laws.proofs.TableLaws.{at-tabulate}
 use Rattle.tables.specs.Part.{part, Laid}
