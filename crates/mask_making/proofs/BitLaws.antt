@@ -43,7 +43,8 @@ module _ (s i : ℕ) (h : T (has s i)) where
   others j ne =
       let r = s - singleton i in
       let back : insert r i ≡ s = omega (arith, insert-bit r i gone, singleton-bit i, bit-in) in
-      let same : has (insert r i) j ≡ has r j = same-test _ _ (λ t. ⊎-elim (λ e. absurd (ne e)) (λ x. x) (insert-has r i j t)) (λ t. has-keep r i j t) in
+      let same : has (insert r i) j ≡ has r j =
+      same-test _ _ (λ t. ⊎-elim (λ e. absurd (ne e)) (λ x. x) (insert-has r i j t)) (λ t. has-keep r i j t) in
       sym same ∙ ap (λ (x : ℕ). has x j) back
 
 -- a mask whose bits below i say, of the conditions that count, what p says of them. The bits from i on are all there
@@ -84,7 +85,8 @@ module _ {counts p : ℕ → Bool} {i s : ℕ} (d : Turn counts p i s) where
       go false e =
           record {
             is =
-                below-more (λ j. T (counts j) → has (s - singleton i) j ≡ p j) i (λ j l t. others s i there j (λ q. omega arith) ∙ d .is j l t)
+                below-more (λ j. T (counts j) → has (s - singleton i) j ≡ p j) i
+                (λ j l t. others s i there j (λ q. omega arith) ∙ d .is j l t)
                 (λ t. failed (has (s - singleton i) i) (gone s i there) ∙ sym e);
             full = λ j le l. subst T (sym (others s i there j (λ q. omega arith))) (d .full j (omega arith) l);
           }

@@ -14,11 +14,13 @@ use Rattle.masks.proofs.ExchangeLaws.{masked-min}
 use Rattle.mask_making.specs.Making.{Space, Made}
 use Rattle.mask_making.proofs.KeptLaws.{kept-part}
 
-pub made-known : {w ks : List ℕ} {n : ℕ} {w′ : List ℕ} (m : ℕ) → Space w ks n → Good ks m (stageAt ks w 0 (cells ks) .limits) → Made w ks n w′ → Known m ks w′
+pub made-known : {w ks : List ℕ} {n : ℕ} {w′ : List ℕ} (m : ℕ) → Space w ks n → Good ks m (stageAt ks w 0 (cells ks) .limits)
+    → Made w ks n w′ → Known m ks w′
 made-known {w} {ks} {n} {w′} m s g d = known (subst (Space w ks) (s .own) s) (subst (λ (k : ℕ). Made w ks k w′) (s .own) d)
   where
     known : Space w ks (cells ks) → Made w ks (cells ks) w′ → Known m ks w′
-    known p q = record { masks = λ op. subst (λ (l : Limits). Masked op ks m l (part w′ (maskPart op (cells ks)) (cells ks))) (sym same) (go op) }
+    known p q =
+        record { masks = λ op. subst (λ (l : Limits). Masked op ks m l (part w′ (maskPart op (cells ks)) (cells ks))) (sym same) (go op) }
       where
         kept : (a : ℕ) → a ≤ cells ks → part w′ a (cells ks) ≡ part w a (cells ks)
         kept = kept-part p (record { len = q .len; limits = q .limits })

@@ -18,12 +18,8 @@ use Rattle.tables.proofs.PartLaws.{part-at, part-length, laid-as, laid-then, la
 use Rattle.rows.specs.Grades.{Reads}
 use Rattle.masks.specs.Masks.{aboveLeast, belowGreatest}
 use Rattle.mask_making.specs.Making.{Space}
-use Rattle.mask_making.specs.Marking.{less, AllHave, HaveBit, Marked}
+use Rattle.mask_making.specs.Marking.{less, marked, AllHave, HaveBit, Marked}
 use Rattle.mask_making.proofs.KeptLaws.{holds-same, kept-part}
-
--- the mask of cell x as `mark` leaves it
-abbrev pub marked : List ℕ → ℕ → ℕ → ℕ → ℕ → ℕ → ℕ
-marked w low high to b x = less (ltb (at w (high + x)) (at w (low + x))) b (at w (to + x))
 
 -- the loop of `mark` is at x
 module _ {w : List ℕ} {to n x : ℕ} {f : ℕ → ℕ} {w′ : List ℕ} (l : Filled w to f x w′) (h : x < n) where
@@ -40,7 +36,7 @@ module _ {w : List ℕ} {to n x : ℕ} {f : ℕ → ℕ} {w′ : List ℕ} (l : 
       → at w′ (to + x) - r ≡ marked w low high to b x
   mark-next b r p q e = ap₂ (λ (s k : ℕ). s - k) stays (e ∙ ap₂ (λ (y z : ℕ). pick (ltb y z) 0 b) (read q) (read p))
 
--- n bytes from a on that are lent and nothing else
+-- the n bytes from a on, lent alone
 module _ (w : List ℕ) (a n : ℕ) (h : a + n ≤ length w) where
   pub lent-reads : Reads [] (lent a n w) 0 0 n
   lent-reads = record { src = omega (arith, lent-length a n w h); dst = omega (arith, lent-length a n w h); aside = inl refl }
@@ -49,9 +45,11 @@ module _ (w : List ℕ) (a n : ℕ) (h : a + n ≤ length w) where
   unfolding part
   lent-whole = take-all n (lent a n w) (omega (arith, lent-length a n w h)) ∙ lent-part a n w
 
-  pub lent-laid : {v : List ℕ} (f : List ℕ → List ℕ) → Laid (lent a n w) 0 (f (part (lent a n w) 0 n)) n v → Laid w a (f (part w a n)) n (back a n w v)
-  lent-laid {v = v} f l =
-      laid-as (ap f lent-whole) (subst (λ (b : ℕ). Laid w b (f (part (lent a n w) 0 n)) n (back a n w v)) (add-zero a) (laid-back a n h (omega arith) l))
+  lent-laid : {v : List ℕ} (f : List ℕ → List ℕ) → Laid (lent a n w) 0 (f (part (lent a n w) 0 n)) n v
+      → Laid w a (f (part w a n)) n (back a n w v)
+  lent-laid {v} f l =
+      laid-as (ap f lent-whole)
+      (subst (λ (b : ℕ). Laid w b (f (part (lent a n w) 0 n)) n (back a n w v)) (add-zero a) (laid-back a n h (omega arith) l))
 
 -- a copy, replaced by what is made of it
 pub copied : (f : List ℕ → List ℕ) {w : List ℕ} {from to n : ℕ} {w′ v : List ℕ} → Two w from to n → Laid w to (part w from n) n w′
@@ -72,7 +70,8 @@ module _ {w : List ℕ} {n : ℕ} (room : 5 * n ≤ length w) where
 -- the masks for max while extremes are laid at the fifth part, and those for min after that
 module _ {w : List ℕ} {n b : ℕ} {t v : List ℕ} (h : HaveBit w n b 0) (l : Laid w (4 * n) t n v) where
   pub first-have : AllHave v (2 * n) n b
-  first-have = record { mask = λ x lt. holds-same v (h .cell x (omega arith) lt .first) (l .len) (l .before (2 * n + x) (omega arith)) }
+  first-have =
+      record { mask = λ x lt. holds-same v (h .cell x (omega arith) lt .first) (l .len) (l .before (2 * n + x) (omega arith)) }
 
   pub second-have : {f v′ g : List ℕ} (w′ : List ℕ) → Laid v (2 * n) f n v′ → Laid v′ (4 * n) g n w′ → AllHave w′ (3 * n) n b
   second-have w′ m k =
@@ -84,8 +83,9 @@ module _ {w : List ℕ} {n b : ℕ} {t v : List ℕ} (h : HaveBit w n b 0) (l : 
       }
 
 module _ {w ks : List ℕ} {n : ℕ} (s : Space w ks n) where
-  -- a condition marked for max, then for min: its extremes are laid at the fifth part before each
-  module _ (i b : ℕ) {v₁ v₂ v₃ w′ : List ℕ} (least : Laid w (4 * n) (leastOver ks (singleton i) (part w n n)) n v₁)
+  -- a condition marked for max, then for min: before each, its extremes are laid at the fifth part
+  module _ (i b : ℕ) {v₁ v₂ v₃ w′ : List ℕ}
+      (least : Laid w (4 * n) (leastOver ks (singleton i) (part w n n)) n v₁)
       (for-max : Laid v₁ (2 * n) (tabulate n (marked v₁ 0 (4 * n) (2 * n) b)) n v₂)
       (greatest : Laid v₂ (4 * n) (greatestOver ks (singleton i) (part v₂ 0 n)) n v₃)
       (for-min : Laid v₃ (3 * n) (tabulate n (marked v₃ (4 * n) n (3 * n) b)) n w′) where
@@ -115,7 +115,9 @@ module _ {w ks : List ℕ} {n : ℕ} (s : Space w ks n) where
                 ∙ ap₂ (λ (t : Bool) (k : ℕ). less t b k)
                 (ap₂ ltb (greatest .before (n + x) (omega arith) ∙ early (n + x) (omega arith) ∙ sym (part-at w n n x h))
                 (greatest .here x h ∙ ap (λ (t : List ℕ). at (greatestOver ks (singleton i) t) x) lower))
-                (greatest .before (3 * n + x) (omega arith) ∙ for-max .after (3 * n + x) (omega arith) ∙ least .before (3 * n + x) (omega arith));
+                (greatest .before (3 * n + x) (omega arith)
+                ∙ for-max .after (3 * n + x) (omega arith)
+                ∙ least .before (3 * n + x) (omega arith));
           };
         }
       where

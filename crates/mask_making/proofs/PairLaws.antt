@@ -15,16 +15,24 @@ use Rattle.mask_making.specs.Marking.{less, Taken, HasBit, HaveBit, Kept
 use Rattle.mask_making.proofs.KeptLaws.{holds-same, kept-self, kept-then}
 
 -- a cell whose masks stay
+same-self : (w : List ℕ) (n x : ℕ) → Same w n x w
+same-self w n x = record { first = refl; second = refl }
+
 same-then : {w : List ℕ} {n x : ℕ} {w′ w″ : List ℕ} → Same w n x w′ → Same w′ n x w″ → Same w n x w″
 same-then s t = record { first = t .first ∙ s .first; second = t .second ∙ s .second }
 
 pub same-bit : {w : List ℕ} {n b x : ℕ} {w′ : List ℕ} → Kept w n w′ → Same w n x w′ → HasBit w n b x → HasBit w′ n b x
-same-bit {w′ = w′} k s h = record { first = holds-same w′ (h .first) (k .len) (s .first); second = holds-same w′ (h .second) (k .len) (s .second) }
+same-bit {w′ = w′} k s h =
+    record { first = holds-same w′ (h .first) (k .len) (s .first); second = holds-same w′ (h .second) (k .len) (s .second) }
 
 -- a cell that is marked by tests that come out alike
-pub cell-as : {w : List ℕ} {n b x : ℕ} {p q p′ q′ : Bool} {w′ : List ℕ} → p ≡ p′ → q ≡ q′ → CellMarked w n b x p q w′ → CellMarked w n b x p′ q′ w′
+pub cell-as : {w : List ℕ} {n b x : ℕ} {p q p′ q′ : Bool} {w′ : List ℕ} → p ≡ p′ → q ≡ q′ → CellMarked w n b x p q w′
+    → CellMarked w n b x p′ q′ w′
 cell-as {w} {n} {b} {x} d e m =
-    record { first = m .first ∙ ap (λ (t : Bool). less t b (at w (2 * n + x))) d; second = m .second ∙ ap (λ (t : Bool). less t b (at w (3 * n + x))) e }
+    record {
+      first = m .first ∙ ap (λ (t : Bool). less t b (at w (2 * n + x))) d;
+      second = m .second ∙ ap (λ (t : Bool). less t b (at w (3 * n + x))) e;
+    }
 
 -- a cell that is marked, and other cells before and after it
 module _ {w : List ℕ} {n b x : ℕ} {p q : Bool} {w′ w″ : List ℕ} where
@@ -52,18 +60,35 @@ module _ {w : List ℕ} {n b x y : ℕ} {w′ w″ : List ℕ} where
 -- the four bytes of a pair, one after the other
 pub line-taken : {w : List ℕ} {n b x y up down : ℕ} {v₁ v₂ v₃ w′ : List ℕ} → x < y → y < n
     → up ≡ pick (ltb (at w (n + y)) (at w x)) 0 b → down ≡ pick (ltb (at w (n + x)) (at w y)) 0 b
-    → Taken w (2 * n + x) up v₁ → Taken v₁ (2 * n + y) down v₂ → Taken v₂ (3 * n + x) down v₃ → Taken v₃ (3 * n + y) up w′ → OnlyLine w n b x y w′
+    → Taken w (2 * n + x) up v₁ → Taken v₁ (2 * n + y) down v₂ → Taken v₂ (3 * n + x) down v₃ → Taken v₃ (3 * n + y) up w′
+    → OnlyLine w n b x y w′
 line-taken {w} {n} {b} {x} {y} {up} {down} {v₁} {v₂} {v₃} {w′} h g eu ed t₁ t₂ t₃ t₄ =
     record {
-      kept = record { len = t₄ .len ∙ t₃ .len ∙ t₂ .len ∙ t₁ .len; limits = λ j l. far j (λ q. omega arith) (λ q. omega arith) (λ q. omega arith) (λ q. omega arith) };
+      kept = record {
+        len = t₄ .len ∙ t₃ .len ∙ t₂ .len ∙ t₁ .len;
+        limits = λ j l. far j (λ q. omega arith) (λ q. omega arith) (λ q. omega arith) (λ q. omega arith);
+      };
       done = record {
         one = record {
-          first = late (2 * n + x) (λ q. omega arith) (λ q. omega arith) ∙ t₂ .other (2 * n + x) (λ q. omega arith) ∙ t₁ .here ∙ ap (λ (k : ℕ). at w (2 * n + x) - k) eu;
-          second = t₄ .other (3 * n + x) (λ q. omega arith) ∙ t₃ .here ∙ ap₂ (λ (s k : ℕ). s - k) (soon (3 * n + x) (λ q. omega arith) (λ q. omega arith)) ed;
+          first =
+              late (2 * n + x) (λ q. omega arith) (λ q. omega arith)
+              ∙ t₂ .other (2 * n + x) (λ q. omega arith)
+              ∙ t₁ .here
+              ∙ ap (λ (k : ℕ). at w (2 * n + x) - k) eu;
+          second =
+              t₄ .other (3 * n + x) (λ q. omega arith)
+              ∙ t₃ .here
+              ∙ ap₂ (λ (s k : ℕ). s - k) (soon (3 * n + x) (λ q. omega arith) (λ q. omega arith)) ed;
         };
         two = record {
-          first = late (2 * n + y) (λ q. omega arith) (λ q. omega arith) ∙ t₂ .here ∙ ap₂ (λ (s k : ℕ). s - k) (t₁ .other (2 * n + y) (λ q. omega arith)) ed;
-          second = t₄ .here ∙ ap₂ (λ (s k : ℕ). s - k) (t₃ .other (3 * n + y) (λ q. omega arith) ∙ soon (3 * n + y) (λ q. omega arith) (λ q. omega arith)) eu;
+          first =
+              late (2 * n + y) (λ q. omega arith) (λ q. omega arith)
+              ∙ t₂ .here
+              ∙ ap₂ (λ (s k : ℕ). s - k) (t₁ .other (2 * n + y) (λ q. omega arith)) ed;
+          second =
+              t₄ .here
+              ∙ ap₂ (λ (s k : ℕ). s - k)
+              (t₃ .other (3 * n + y) (λ q. omega arith) ∙ soon (3 * n + y) (λ q. omega arith) (λ q. omega arith)) eu;
         };
       };
       left = λ z l nx ny. record {
@@ -83,7 +108,7 @@ line-taken {w} {n} {b} {x} {y} {up} {down} {v₁} {v₂} {v₃} {w′} h g eu ed
 
 -- lines of a block
 pub rows-none : (w : List ℕ) (n b a step : ℕ) → RowsMarked w n b a step 0 w
-rows-none w n b a step = record { kept = kept-self w n; done = λ o h. absurd (omega arith); left = λ z h no. record { first = refl; second = refl } }
+rows-none w n b a step = record { kept = kept-self w n; done = λ o h. absurd (omega arith); left = λ z h no. same-self w n z }
 
 module _ {w : List ℕ} {n b a step s : ℕ} {w′ : List ℕ} (r : RowsMarked w n b a step s w′) (h : s < step) (fits : a + step * 2 ≤ n) where
   -- the next line is not marked yet
@@ -103,12 +128,14 @@ module _ {w : List ℕ} {n b a step s : ℕ} {w′ : List ℕ} (r : RowsMarked w
             line-then (r .done o lt) (l .left (a + o) (omega arith) (λ q. omega arith) (λ q. omega arith))
             (l .left (a + step + o) (omega arith) (λ q. omega arith) (λ q. omega arith)))
             (line-from (r .kept) (omega arith) (omega arith) next-first next-second (l .done));
-        left = λ z lt no. same-then (r .left z lt (λ o lo e. no o (omega arith) e)) (l .left z lt (λ e. no s (omega arith) (inl e)) (λ e. no s (omega arith) (inr e)));
+        left = λ z lt no.
+            same-then (r .left z lt (λ o lo e. no o (omega arith) e))
+            (l .left z lt (λ e. no s (omega arith) (inl e)) (λ e. no s (omega arith) (inr e)));
       }
 
 -- blocks of a table
 pub blocks-none : (w : List ℕ) (n b step : ℕ) → BlocksMarked w n b step 0 w
-blocks-none w n b step = record { kept = kept-self w n; done = λ k o h. absurd (omega arith); left = λ z h l. record { first = refl; second = refl } }
+blocks-none w n b step = record { kept = kept-self w n; done = λ k o h. absurd (omega arith); left = λ z h l. same-self w n z }
 
 module _ {w : List ℕ} {n b step k : ℕ} {w′ : List ℕ} (m : BlocksMarked w n b step k w′) (fits : step * 2 * k + step * 2 ≤ n) where
   -- the masks of the cells from the next block on
@@ -124,7 +151,8 @@ module _ {w : List ℕ} {n b step k : ℕ} {w′ : List ℕ} (m : BlocksMarked w
             (λ i hi.
             let e = line-end (step * 2) k i hi in
             line-then (m .done i o hi ho) (before (step * 2 * i + o) (omega arith)) (before (step * 2 * i + step + o) (omega arith)))
-            (line-from (m .kept) (omega arith) (omega arith) (m .left (step * 2 * k + o) (omega arith) (omega arith)) (m .left (step * 2 * k + step + o) (omega arith) (omega arith)) (r .done o ho))
+            (line-from (m .kept) (omega arith) (omega arith) (m .left (step * 2 * k + o) (omega arith) (omega arith))
+            (m .left (step * 2 * k + step + o) (omega arith) (omega arith)) (r .done o ho))
             j hj;
         left = λ z le lt.
             let e : step * 2 * (k + 1) ≡ step * 2 * k + step * 2 = rw (add-one k) (mul-suc (step * 2) k) in

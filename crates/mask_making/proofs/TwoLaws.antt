@@ -3,7 +3,7 @@ use Prim.Native.Nat.{ℕ, _+_, _-_, _*_, _/_, _%_, _≤_, _<_, min, max}
 use mathlib.Core.Path.{_≡_, refl, sym, _∙_, ap, ap₂, subst}
 use mathlib.Core.Bool.{Bool, true, false}
 use mathlib.Core.List.{List}
-use native.Mathlib.Nat.{mul-one, mod-lt, mod-add-div}
+use native.Mathlib.Nat.{zero-add, mul-one, mod-lt, mod-add-div}
 use native.Mathlib.Omega.{arith}
 use borrow.Author.Tests.{ltb-true, ltb-false, lt-ltb, le-ltb}
 use lib.Dec.{ltb}
@@ -52,14 +52,26 @@ over-counted : (greatest : Bool) (ks f : List ℕ) (i x stp crd : ℕ) → Posit
 over-counted greatest ks f i x stp crd p h es ec = rw (es, ec) (over-steps (best-bound greatest) ks f i x p h)
 
 module _ {w ks : List ℕ} {n i stp : ℕ} (s : Space w ks n) (c : Counts ks i n stp) (two : card ks i ≡ 2) where
-  -- the extremes over the condition at x, one of the cells of line o of block k
+  -- the extremes over the condition at x, of the tables at any part, are those of x and y
+  abbrev Mate : ℕ → ℕ → Type 0
+  Mate x y =
+      (greatest : Bool) (a : ℕ) → at (over (best greatest) ks (singleton i) (part w a n)) x ≡ best greatest (at w (a + x)) (at w (a + y))
+
+  -- so it is for the two cells of line o of block k
   module _ (k o : ℕ) (ho : o < stp) (fits : stp * 2 * k + stp * 2 ≤ n) where
+    abbrev first : ℕ
+    first = stp * 2 * k + o
+
+    abbrev second : ℕ
+    second = stp * 2 * k + stp + o
+
     extreme : (greatest : Bool) (a x v : ℕ) → v < 2 → x ≡ o + stp * v + stp * 2 * k
-        → at (over (best greatest) ks (singleton i) (part w a n)) x ≡ best greatest (at w (a + (stp * 2 * k + o))) (at w (a + (stp * 2 * k + stp + o)))
+        → at (over (best greatest) ks (singleton i) (part w a n)) x ≡ best greatest (at w (a + first)) (at w (a + second))
     extreme greatest a x v hv e =
-        let one : a + stp * 2 * k + o ≡ a + (stp * 2 * k + o) = omega arith in
-        let other : a + stp * 2 * k + o + stp ≡ a + (stp * 2 * k + stp + o) = omega arith in
-        over-counted greatest ks (part w a n) i x stp 2 (s .shaped .some) (let q = c .count in omega (arith, inside v hv)) (c .step-is) (sym two)
+        let one : a + stp * 2 * k + o ≡ a + first = omega arith in
+        let other : a + stp * 2 * k + o + stp ≡ a + second = omega arith in
+        let lt : x < cells ks = let q = c .count in omega (arith, inside v hv) in
+        over-counted greatest ks (part w a n) i x stp 2 (s .shaped .some) lt (c .step-is) (sym two)
         ∙ line-table greatest w a n stp 2 x o v k ho hv e inside
         ∙ sym (best-two greatest w (a + stp * 2 * k + o) stp)
         ∙ ap₂ (λ (p q : ℕ). best greatest (at w p) (at w q)) one other
@@ -67,34 +79,28 @@ module _ {w ks : List ℕ} {n i stp : ℕ} (s : Space w ks n) (c : Counts ks i n
         inside : (u : ℕ) → u < 2 → o + stp * 2 * k + stp * u < n
         inside u hu = omega (arith, line-end stp 2 u hu)
 
-    -- which cells they are, and what refuses them
-    abbrev first : ℕ
-    first = stp * 2 * k + o
+    first-mate : Mate first second
+    first-mate greatest a = extreme greatest a first 0 (omega arith) (omega arith)
 
-    abbrev second : ℕ
-    second = stp * 2 * k + stp + o
+    second-mate : Mate second first
+    second-mate greatest a =
+        extreme greatest a second 1 (omega arith) (omega (arith, mul-one stp)) ∙ best-turn greatest (at w (a + first)) (at w (a + second))
 
-    at-first : (greatest : Bool) (a : ℕ) → at (over (best greatest) ks (singleton i) (part w a n)) first ≡ best greatest (at w (a + first)) (at w (a + second))
-    at-first greatest a = extreme greatest a first 0 (omega arith) (omega arith)
-
-    at-second : (greatest : Bool) (a : ℕ) → at (over (best greatest) ks (singleton i) (part w a n)) second ≡ best greatest (at w (a + second)) (at w (a + first))
-    at-second greatest a = extreme greatest a second 1 (omega arith) (omega (arith, mul-one stp)) ∙ best-turn greatest (at w (a + first)) (at w (a + second))
-
+  -- cell x, marked by the extremes
   abbrev Cell : ℕ → ℕ → List ℕ → Type 0
   Cell b x w′ = CellMarked w n b x (aboveLeast ks (part w 0 n) (part w n n) i x) (belowGreatest ks (part w 0 n) (part w n n) i x) w′
 
-  -- a cell x that is marked beside y is marked by the extremes over the condition, which are those of the two
-  beside-cell : {b x : ℕ} (y : ℕ) {w′ : List ℕ} → x < n
-      → ((greatest : Bool) (a : ℕ) → at (over (best greatest) ks (singleton i) (part w a n)) x ≡ best greatest (at w (a + x)) (at w (a + y))) → Beside w n b x y w′ → Cell b x w′
+  -- that is what it is if it is marked beside y
+  beside-cell : {b x : ℕ} (y : ℕ) {w′ : List ℕ} → x < n → Mate x y → Beside w n b x y w′ → Cell b x w′
   unfolding aboveLeast belowGreatest
   beside-cell {b} {x} y hx e m =
-      let z : 0 + x ≡ x = omega arith in
-      let zy : 0 + y ≡ y = omega arith in
-      let lower : at (part w 0 n) x ≡ at w x = part-at w 0 n x hx ∙ ap (at w) z in
-      let least : at (over min ks (singleton i) (part w n n)) x ≡ min (at w (n + x)) (at w (n + y)) = e false n in
-      let greatest : at (over max ks (singleton i) (part w 0 n)) x ≡ max (at w x) (at w y) = e true 0 ∙ ap₂ (λ (p q : ℕ). max (at w p) (at w q)) z zy in
-      cell-as (below-least (at w x) (at w (n + x)) (at w (n + y)) (s .ordered x hx) ∙ sym (ap₂ ltb least lower))
-      (above-greatest (at w (n + x)) (at w x) (at w y) (s .ordered x hx) ∙ sym (ap₂ ltb (part-at w n n x hx) greatest)) m
+      let z = zero-add x in
+      cell-as
+      (below-least (at w x) (at w (n + x)) (at w (n + y)) (s .ordered x hx)
+      ∙ sym (ap₂ ltb (e false n) (part-at w 0 n x hx ∙ ap (at w) z)))
+      (above-greatest (at w (n + x)) (at w x) (at w y) (s .ordered x hx)
+      ∙ sym (ap₂ ltb (part-at w n n x hx) (e true 0 ∙ ap₂ (λ (p q : ℕ). max (at w p) (at w q)) z (zero-add y))))
+      m
 
   -- the blocks of the condition, and all of them marked
   pub two-blocks : length ks ≡ 8 → Several (stp * 2) n
@@ -107,6 +113,9 @@ module _ {w ks : List ℕ} {n i stp : ℕ} (s : Space w ks n) (c : Counts ks i n
     where
       size : ℕ
       size = stp * 2
+
+      here : {x y : ℕ} → x ≡ y → Cell b x w′ → Cell b y w′
+      here e m = subst (λ (z : ℕ). Cell b z w′) e m
 
       go : (x : ℕ) → x < n → Cell b x w′
       go x hx =
@@ -121,7 +130,7 @@ module _ {w ks : List ℕ} {n i stp : ℕ} (s : Space w ks n) (c : Counts ks i n
           let o = d - stp in
           let ho : o < stp = omega arith in
           let f : size * k + stp + o ≡ x = omega arith in
-          subst (λ (y : ℕ). Cell b y w′) f (beside-cell (size * k + o) (omega arith) (at-second k o ho fits) (m .done k o hk ho .two)))
+          here f (beside-cell (size * k + o) (omega arith) (second-mate k o ho fits) (m .done k o hk ho .two)))
           (λ lt.
           let f : size * k + d ≡ x = omega arith in
-          subst (λ (y : ℕ). Cell b y w′) f (beside-cell (size * k + stp + d) (omega arith) (at-first k d lt fits) (m .done k d hk lt .one)))
+          here f (beside-cell (size * k + stp + d) (omega arith) (first-mate k d lt fits) (m .done k d hk lt .one)))

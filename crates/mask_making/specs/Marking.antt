@@ -14,6 +14,10 @@ use Rattle.masks.specs.Masks.{aboveLeast, belowGreatest}
 abbrev pub less : Bool → ℕ → ℕ → ℕ
 less refuses bit mask = mask - pick refuses 0 bit
 
+-- of the masks at `to`, that of cell x: b is taken from it unless the grade at `low` is above the one at `high`
+abbrev pub marked : List ℕ → ℕ → ℕ → ℕ → ℕ → ℕ → ℕ
+marked w low high to b x = less (ltb (at w (high + x)) (at w (low + x))) b (at w (to + x))
+
 -- the byte at j is at least b
 pub record Holds (w : List ℕ) (j b : ℕ) : Type 0 where
   pub place : j < length w
@@ -83,4 +87,5 @@ pub record BlocksMarked (w : List ℕ) (n b step count : ℕ) (w′ : List ℕ) 
 -- condition i, whose bit is b, at every cell
 pub record Marked (w ks : List ℕ) (i n b : ℕ) (w′ : List ℕ) : Type 0 where
   pub kept : Kept w n w′
-  pub cell : (x : ℕ) → x < n → CellMarked w n b x (aboveLeast ks (part w 0 n) (part w n n) i x) (belowGreatest ks (part w 0 n) (part w n n) i x) w′
+  pub cell : (x : ℕ) → x < n
+      → CellMarked w n b x (aboveLeast ks (part w 0 n) (part w n n) i x) (belowGreatest ks (part w 0 n) (part w n n) i x) w′

@@ -6,13 +6,13 @@ use tables::fill;
 ghost use Prim.Native.Nat.{_+_, _*_, _/_, _≤_, _<_};
 ghost use mathlib.Core.Path.{_≡_};
 ghost use lib.Dec.{ltb};
-ghost use Rattle.rules.specs.Bytes.{pick, at, tabulate};
+ghost use Rattle.rules.specs.Bytes.{pick, tabulate};
 ghost use Rattle.rules.specs.Cell.{cells, card, singleton, over};
 ghost use Rattle.tables.specs.Line.{best, Counts};
 ghost use Rattle.tables.specs.Part.{part, Laid, Two, Shaped};
 ghost use Rattle.rows.specs.Blocks.{Several};
 ghost use Rattle.mask_making.specs.Making.{Space, Made};
-ghost use Rattle.mask_making.specs.Marking.{less, Holds, Taken, AllHave, HasBit, HaveBit, OnlyLine, RowsMarked, BlocksMarked, Marked};
+ghost use Rattle.mask_making.specs.Marking.{marked, Holds, Taken, AllHave, HasBit, HaveBit, OnlyLine, RowsMarked, BlocksMarked, Marked};
 
 // What is taken from a mask: the bit, unless the grade is above the limit.
 fn bit_unless_above(grade: u8, limit: u8, bit: u8) -> u8
@@ -24,7 +24,7 @@ fn bit_unless_above(grade: u8, limit: u8, bit: u8) -> u8
 // Takes a bit from the masks at `to` of the cells whose grade at `low` is not above the one at `high`.
 fn mark(w: &mut [u8], low: usize, high: usize, to: usize, n: usize, bit: u8)
     requires { ⌜ Two (now w) low to n × Two (now w) high to n × AllHave (now w) to n bit ⌝ }
-    ensures { λ _. ⌜ Laid (now (w .entry)) to (tabulate n (λ x. less (ltb (at (now (w .entry)) (high + x)) (at (now (w .entry)) (low + x))) bit (at (now (w .entry)) (to + x)))) n (now (w .exit)) ⌝ }
+    ensures { λ _. ⌜ Laid (now (w .entry)) to (tabulate n (marked (now (w .entry)) low high to bit)) n (now (w .exit)) ⌝ }
 {
     for x in 0..n {
         w[to + x] = w[to + x] - bit_unless_above(w[low + x], w[high + x], bit);
@@ -60,6 +60,7 @@ fn mark_lines(w: &mut [u8], ks: [u8; PLACES], i: usize, n: usize, bit: u8)
     mark(w, 4 * n, n, 3 * n, n, bit);
 }
 
+// Takes a bit from one mask.
 fn take_bit(w: &mut [u8], j: usize, bit: u8)
     requires { ⌜ Holds (now w) j bit ⌝ }
     ensures { λ _. ⌜ Taken (now (w .entry)) j bit (now (w .exit)) ⌝ }

@@ -14,7 +14,6 @@ use Rattle.mask_making.proofs.MakeLaws.{Building, filled-kept, building
 use Rattle.mask_making.proofs.make.Statement.{statement}
 use Rattle.mask_making.proofs.make.Tie as tie
 
-
 abbrev Inv-loop : tie.InvT-loop
 Inv-loop w₀ n ks step₀ i₀ w stp i = (i ≤ 8) × (stp ≡ step ks i) × Space w₀ ks n × Building w₀ ks n i w
 
@@ -59,14 +58,20 @@ mark-condition-requires c κs =
     )
 
 -- the next condition's step
-next : (c : tie.Joined1 Inv-loop μ-loop) → let l = c .before .before .loop in let ks = c .before .before .before .before .before .before .before .before .args .t2 in l .step * getD ks (l .i) 0 ≡ step ks (l .i + 1)
-next c = let l = c .before .before .loop in step-more (c .before .before .before .before .before .before .before .before .args .t2) (l .i) (l .step) (search needs) (l .inv .1)
+next : (c : tie.Joined1 Inv-loop μ-loop)
+    → let l = c .before .before .loop in
+    let ks = c .before .before .before .before .before .before .before .before .args .t2 in
+    l .step * getD ks (l .i) 0 ≡ step ks (l .i + 1)
+next c =
+    let l = c .before .before .loop in
+    step-more (c .before .before .before .before .before .before .before .before .args .t2) (l .i) (l .step) (search needs) (l .inv .1)
 
 mul-step : tie.Need-mul-step Inv-loop μ-loop
 mul-step c =
     let l = c .before .before .loop in
+    let ks : List ℕ = c .before .before .before .before .before .before .before .before .args .t2 in
     let few = l .inv .2 .shaped .few in
-    omega (arith, next c, step-le (c .before .before .before .before .before .before .before .before .args .t2) (l .i + 1) (l .inv .2 .shaped .some))
+    omega (arith, next c, step-le ks (l .i + 1) (l .inv .2 .shaped .some))
 
 add-i : tie.Need-add-i Inv-loop μ-loop
 add-i c = search needs
@@ -91,7 +96,9 @@ same-length : tie.Need-same-length Inv-loop μ-loop
 same-length c = c .before .loop .inv .3 .kept .len ∙ c .before .before .before .before .fill .ensures .len
 
 returns : tie.Need-returns Inv-loop μ-loop
-returns c = made (c .before .before .before .before .before .before .before .pre) (search needs) (filled-kept (c .before .before .before .before .fill .ensures)) (c .before .loop .inv .3)
+returns c =
+    let f = c .before .before .before .before in
+    made (f .before .before .before .pre) (search needs) (filled-kept (f .fill .ensures)) (c .before .loop .inv .3)
 
 pub make-spec : {M : Type 1} → statement M
 make-spec =

@@ -3,7 +3,8 @@ use Prim.Native.Nat.{_-_, _≤_, _<_}
 use native.Mathlib.Omega.{arith}
 use borrow.Author.Needs.{needs}
 use Rattle.tables.proofs.PartLaws.{Filled, filled-none, filled-more, filled-all}
-use Rattle.mask_making.proofs.MarkLaws.{marked, mark-fits, mark-next}
+use Rattle.mask_making.specs.Marking.{marked}
+use Rattle.mask_making.proofs.MarkLaws.{mark-fits, mark-next}
 use Rattle.mask_making.proofs.mark.Statement.{statement}
 use Rattle.mask_making.proofs.mark.Tie as tie
 
@@ -61,7 +62,9 @@ loop-again c =
     let l = c .before .before .before .before .before .loop in
     let d = b .pre .0 .dst in
     let h : l .x < b .args .n = omega arith in
-    (search needs, filled-more _ (l .inv .1) (omega arith) (mark-next (l .inv .1) h (b .args .bit) (c .bit-unless-above .result) (b .pre .0) (b .pre .1) (c .bit-unless-above .ensures .0)))
+    let r = c .bit-unless-above in
+    let e = mark-next (l .inv .1) h (b .args .bit) (r .result) (b .pre .0) (b .pre .1) (r .ensures .0) in
+    (search needs, filled-more _ (l .inv .1) (omega arith) e)
 
 same-length : tie.Need-same-length Inv-loop μ-loop
 same-length c = search needs

@@ -9,7 +9,6 @@ use Rattle.mask_making.proofs.PairLaws.{blocks-none, next-bits, blocks-
 use Rattle.mask_making.proofs.mark_blocks.Statement.{statement}
 use Rattle.mask_making.proofs.mark_blocks.Tie as tie
 
-
 abbrev Inv-loop : tie.InvT-loop
 Inv-loop w₀ n step bit size count b₀ w b = (b ≤ count) × BlocksMarked w₀ n bit step b w
 

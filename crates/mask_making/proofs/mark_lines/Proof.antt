@@ -7,7 +7,6 @@ use Rattle.mask_making.proofs.MarkLaws.{part-before, part-behind, first
 use Rattle.mask_making.proofs.mark_lines.Statement.{statement}
 use Rattle.mask_making.proofs.mark_lines.Tie as tie
 
-
 mul-extreme-over : tie.Need-mul-extreme-over
 mul-extreme-over c = search needs
 
@@ -32,8 +31,11 @@ mark-requires c κs =
     let l = e .extreme-over .ensures in
     let q = l .len in
     let p = b .pre .1 .room in
-    let r : 5 * n ≤ length (e .extreme-over .last .0) = omega arith in
-    (part-before r 0 (2 * n) (omega arith) (omega arith), part-behind r (4 * n) (2 * n) (omega arith) (omega arith), first-have (b .pre .2) l)
+    let r : 5 * n ≤ length (e .extreme-over .last .0) = omega arith in (
+      part-before r 0 (2 * n) (omega arith) (omega arith),
+      part-behind r (4 * n) (2 * n) (omega arith) (omega arith),
+      first-have (b .pre .2) l,
+    )
 
 mul-extreme-over-2 : tie.Need-mul-extreme-over-2
 mul-extreme-over-2 c = search needs
@@ -83,7 +85,8 @@ returns c =
     let m = f .before .before .before .before in
     let e = m .before .before .before .before in
     let b = e .before .before .before in
-    lines-marked (b .pre .1) (b .args .i) (b .args .bit) (e .extreme-over .ensures) (m .mark .ensures) (f .extreme-over2 .ensures) (k .mark2 .ensures)
+    lines-marked (b .pre .1) (b .args .i) (b .args .bit) (e .extreme-over .ensures) (m .mark .ensures)
+    (f .extreme-over2 .ensures) (k .mark2 .ensures)
 
 pub mark-lines-spec : {M : Type 1} → statement M
 mark-lines-spec =

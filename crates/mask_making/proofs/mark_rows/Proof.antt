@@ -8,7 +8,6 @@ use Rattle.mask_making.proofs.PairLaws.{same-bit, rows-none, next-first
 use Rattle.mask_making.proofs.mark_rows.Statement.{statement}
 use Rattle.mask_making.proofs.mark_rows.Tie as tie
 
-
 abbrev Inv-loop : tie.InvT-loop
 Inv-loop w₀ a step n bit o₀ w o = (o ≤ step) × RowsMarked w₀ n bit a step o w
 

@@ -7,7 +7,6 @@ use Rattle.mask_making.proofs.PairLaws.{line-taken}
 use Rattle.mask_making.proofs.mark_two.Statement.{statement}
 use Rattle.mask_making.proofs.mark_two.Tie as tie
 
-
 slice-read-bit-unless-above : tie.Need-slice-read-bit-unless-above
 slice-read-bit-unless-above c = search needs
 
@@ -40,8 +39,8 @@ add-take-bit c = search needs
 
 take-bit-requires : tie.Need-take-bit-requires
 take-bit-requires c κs =
-    let d = c .before in
-    holds-less (d .before .before .before .before .before .before .before .pre .2 .first) (d .before .before .before .bit-unless-above .ensures .1)
+    let d = c .before .before .before .before in
+    holds-less (d .before .before .before .before .pre .2 .first) (d .bit-unless-above .ensures .1)
 
 mul-take-bit-2 : tie.Need-mul-take-bit-2
 mul-take-bit-2 c = search needs
@@ -53,7 +52,8 @@ take-bit-requires-2 : tie.Need-take-bit-requires-2
 take-bit-requires-2 c κs =
     let t = c .before .before .before .take-bit .ensures in
     let d = c .before .before .before .before .before in
-    holds-same _ (holds-less (d .before .before .before .before .before .before .before .pre .3 .first) (d .bit-unless-above2 .ensures .1)) (t .len) (t .other _ (λ q. omega arith))
+    let h = holds-less (d .before .before .before .before .before .before .before .pre .3 .first) (d .bit-unless-above2 .ensures .1) in
+    holds-same _ h (t .len) (t .other _ (λ q. omega arith))
 
 mul-take-bit-3 : tie.Need-mul-take-bit-3
 mul-take-bit-3 c = search needs
@@ -66,7 +66,8 @@ take-bit-requires-3 c κs =
     let u = c .before .before .before .take-bit2 .ensures in
     let t = c .before .before .before .before .before .before .before .take-bit .ensures in
     let d = c .before .before .before .before .before .before .before .before .before in
-    holds-same _ (holds-less (d .before .before .before .before .before .before .before .pre .2 .second) (d .bit-unless-above2 .ensures .1)) (u .len ∙ t .len) (u .other _ (λ q. omega arith) ∙ t .other _ (λ q. omega arith))
+    let h = holds-less (d .before .before .before .before .before .before .before .pre .2 .second) (d .bit-unless-above2 .ensures .1) in
+    holds-same _ h (u .len ∙ t .len) (u .other _ (λ q. omega arith) ∙ t .other _ (λ q. omega arith))
 
 mul-take-bit-4 : tie.Need-mul-take-bit-4
 mul-take-bit-4 c = search needs
@@ -78,9 +79,11 @@ take-bit-requires-4 : tie.Need-take-bit-requires-4
 take-bit-requires-4 c κs =
     let v = c .before .before .before .take-bit3 .ensures in
     let u = c .before .before .before .before .before .before .before .take-bit2 .ensures in
-    let t = c .before .before .before .before .before .before .before .before .before .before .before .take-bit .ensures in
-    let d = c .before .before .before .before .before .before .before .before .before .before .before .before .before in
-    holds-same _ (holds-less (d .before .before .before .before .before .before .before .pre .3 .second) (d .before .before .before .bit-unless-above .ensures .1)) (v .len ∙ u .len ∙ t .len)
+    let f = c .before .before .before .before .before .before .before .before .before .before .before in
+    let t = f .take-bit .ensures in
+    let d = f .before .before .before .before .before in
+    let h = holds-less (d .before .before .before .before .pre .3 .second) (d .bit-unless-above .ensures .1) in
+    holds-same _ h (v .len ∙ u .len ∙ t .len)
     (v .other _ (λ q. omega arith) ∙ u .other _ (λ q. omega arith) ∙ t .other _ (λ q. omega arith))
 
 same-length : tie.Need-same-length
@@ -95,8 +98,8 @@ returns c =
     let down = t .before .before in
     let up = down .before .before .before in
     let b = up .before .before .before .before in
-    line-taken (b .pre .0) (b .pre .1) (up .bit-unless-above .ensures .0) (down .bit-unless-above2 .ensures .0) (t .take-bit .ensures) (u .take-bit2 .ensures)
-    (v .take-bit3 .ensures) (x .take-bit4 .ensures)
+    line-taken (b .pre .0) (b .pre .1) (up .bit-unless-above .ensures .0) (down .bit-unless-above2 .ensures .0)
+    (t .take-bit .ensures) (u .take-bit2 .ensures) (v .take-bit3 .ensures) (x .take-bit4 .ensures)
 
 pub mark-two-spec : {M : Type 1} → statement M
 mark-two-spec =
