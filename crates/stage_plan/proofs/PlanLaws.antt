@@ -198,3 +198,21 @@ module _ {ks w : List ℕ} {n : ℕ} {low : Condition} (room : Room w ks n) (is 
         ends-with (subst (λ (b : List ℕ). Turned left ks w b w′) (sym e) t)
         (sym (no-width l (as-shaped e (fewer-shaped (singleton (low .number)) (room .shaped)) .some) no-condition)) is′
         (let z = no-condition in omega arith)
+
+-- whether the last condition was dropped
+module _ {ks w w′ : List ℕ} (b : List ℕ) {r : Bool} where
+  pub dropped-yes : r ≡ true → Turned left ks w (cond r b ks) w′ → Turned left ks w b w′
+  dropped-yes e t = subst (λ (q : Bool). Turned left ks w (cond q b ks) w′) e t
+
+  pub dropped-no : r ≡ false → Turned left ks w (cond r b ks) w′ → Turned left ks w ks w′
+  dropped-no e t = subst (λ (q : Bool). Turned left ks w (cond q b ks) w′) e t
+
+-- the same stage at the front of another buffer
+pub planned-same : {m : ℕ} {ks v w : List ℕ} {r : Plan} {w′ : List ℕ} → frontStage ks v ≡ frontStage ks w → length v ≡ length w → Planned m ks v r w′ → Planned m ks w r w′
+planned-same e l p =
+    record {
+      places = p .places ∙ ap (λ (x : Stage). left x .ks) e;
+      own = p .own;
+      lowest = p .lowest;
+      does = does-same (ap left e) l (p .does);
+    }

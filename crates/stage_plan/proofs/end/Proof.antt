@@ -1,8 +1,9 @@
 -- `stage_plan::end` meets its contract.
 use borrow.Author.Needs.{needs}
-use mathlib.Core.Path.{_≡_, sym}
+use mathlib.Core.Path.{_≡_}
 use lib.ListN.{length}
-use Rattle.stage_plan.proofs.PlanLaws.{ends-all, ends-one}
+use Rattle.rules.specs.Cell.{singleton, without}
+use Rattle.stage_plan.proofs.PlanLaws.{dropped-yes, dropped-no, ends-all, ends-one}
 use Rattle.stage_plan.proofs.end.Statement.{statement}
 use Rattle.stage_plan.proofs.end.Tie as tie
 
@@ -23,7 +24,7 @@ returns c =
     let b = c .before .before .before .before .before .before .before .before in
     let t = c .before .before .before .before .before .drop-last .ensures in
     let e : length (b .args .ks) ≡ 8 = search needs in
-    ends-one (b .pre .0) (b .pre .1) (b .pre .2) (t .1 (c .before .before .if1 .taken)) e (c .before .without-one .ensures) (rw (c .before .before .if1 .taken) (t .0)) (c .lowest .ensures)
+    ends-one (b .pre .0) (b .pre .1) (b .pre .2) (t .1 (c .before .before .if1 .taken)) e (c .before .without-one .ensures) (dropped-yes _ (c .before .before .if1 .taken) (t .0)) (c .lowest .ensures)
 
 same-length-2 : tie.Need-same-length-2
 same-length-2 c = search needs
@@ -31,7 +32,7 @@ same-length-2 c = search needs
 returns-2 : tie.Need-returns-2
 returns-2 c =
     let b = c .before .before .before .before .before .before in
-    ends-all (b .pre .0) (b .pre .1) (b .pre .2) (rw (c .if1 .left) (c .before .before .before .drop-last .ensures .0))
+    ends-all (b .pre .0) (b .pre .1) (b .pre .2) (dropped-no (without (singleton (b .args .low .number)) (b .args .ks)) (c .if1 .left) (c .before .before .before .drop-last .ensures .0))
 
 pub end-spec : {M : Type 1} → statement M
 end-spec = tie.close (tie.spec drop-last-requires without-one-requires lowest-requires same-length returns same-length-2 returns-2)

@@ -1,0 +1,39 @@
+-- `stage_plan::plan_stage` meets its contract.
+use borrow.Author.Needs.{needs}
+use Rattle.stage_plan.proofs.PlanLaws.{ordered, room-same, wide-here, planned-same}
+use mathlib.Core.Path.{sym, subst}
+use Rattle.stage_drops.specs.Working.{Proper}
+use Rattle.stage_plan.proofs.plan_stage.Statement.{statement}
+use Rattle.stage_plan.proofs.plan_stage.Tie as tie
+
+lowest-requires : tie.Need-lowest-requires
+lowest-requires c κs = tt
+
+end-requires : tie.Need-end-requires
+end-requires c κs = let p = c .before .before .before .before .before .pre in (p .0, c .before .before .before .lowest .ensures, c .before .if1 .taken)
+
+same-length : tie.Need-same-length
+same-length c = search needs
+
+returns : tie.Need-returns
+returns c = c .before .before .end .ensures .planned (c .before .before .before .before .before .before .before .before .args .m)
+
+learn-requires : tie.Need-learn-requires
+learn-requires c κs = let p = c .before .before .before .before .before .pre in (p .0, ordered (p .0) (p .1))
+
+plan-known-requires : tie.Need-plan-known-requires
+plan-known-requires c κs =
+    let b = c .before .before .before .before .before .before .before .before .before in
+    let p = b .pre in
+    let k = c .before .before .before .learn .ensures in
+    let is = c .before .before .before .before .before .before .before .lowest .ensures in
+    (room-same (p .0) (k .len), subst (Proper (b .args .m)) (sym (k .stage)) (p .1), k .masks (b .args .m) (p .1) (p .2), is, wide-here (p .0) is (c .before .before .before .before .before .if1 .left))
+
+same-length-2 : tie.Need-same-length-2
+same-length-2 c = search needs
+
+returns-2 : tie.Need-returns-2
+returns-2 c = let k = c .before .before .before .before .before .before .learn .ensures in planned-same (k .stage) (k .len) (c .before .before .plan-known .ensures)
+
+pub plan-stage-spec : {M : Type 1} → statement M
+plan-stage-spec = tie.close (tie.spec lowest-requires end-requires same-length returns learn-requires plan-known-requires same-length-2 returns-2)
