@@ -1,10 +1,12 @@
 -- 01, Stages, step 5: a join's two stages, one behind the other.
 use Prim.Native.Nat.{ℕ, _+_, _-_, _*_, _≤_, _<_}
 use mathlib.Core.Path.{_≡_, refl, sym, _∙_, ap, ap₂, subst}
+use mathlib.Core.Bool.{Bool, true, false}
 use mathlib.Core.List.{List}
 use native.Mathlib.Nat.{le-trans}
 use native.Mathlib.Omega.{arith}
 use borrow.Rule.Slice.PartMut.{putMid}
+use lib.Dec.{T}
 use lib.ListN.{length}
 use Rattle.rules.specs.declared.Gate.{Gate}
 use Rattle.rules.specs.Bytes.{at, tabulate}
@@ -30,9 +32,14 @@ use Rattle.stage_steps.specs.declared.gates.Extent.{Extent}
 use Rattle.stage_steps.specs.Extents.{GateRoom}
 use Rattle.stage_steps.specs.Ends.{Closed}
 use Rattle.stage_steps.proofs.ExtentLaws.{gate-room, tree-gate}
+use Rattle.stage_steps.proofs.WantLaws.{wanted-length}
 use Rattle.stages.specs.Staging.{Starts, Written, Joins}
 use Rattle.stages.proofs.LentLaws.{rest, Back, back-front}
 use Rattle.stages.proofs.ChildLaws.{proper-ready, written-as, Smaller, smaller, Lent, behind, falls, child-stage, child-starts, child-back, child-function}
+
+-- a block's masks are not known
+unknown : {P : Type 0} → false ≡ true → P
+unknown e = absurd (subst T (sym e) tt)
 
 part-below : {w : List ℕ} {a n m : ℕ} (t : List ℕ) → part w a n ≡ t → ((c : ℕ) → c < n → at t c ≤ m - 1) → Below w a n m
 part-below {w} {a} {n} {m} t e h =
@@ -92,19 +99,19 @@ module _ {gate : Gate} {m : ℕ} {ks : List ℕ} {l : Limits} {s t c : ℕ} {w :
     first-stage : stageAt a (rest (8 * c) w₁) 0 (cells a) ≡ A
     first-stage = child-stage first-lent (f .stage s l (j .tables))
 
-    pub first-starts : {n : ℕ} → n ≡ cells a → Starts m a n (rest (8 * c) w₁) r
-    first-starts e = child-starts first-lent (A .limits) e first-stage (first-ready m gate s t y ready admits) (let i = j .numbers in omega arith)
+    pub first-starts : {n : ℕ} → n ≡ cells a → Starts m a n false (rest (8 * c) w₁) r
+    first-starts e = child-starts first-lent (A .limits) e first-stage (first-ready m gate s t y ready admits) unknown (let i = j .numbers in omega arith)
 
     pub first-fewer : 2 * width a + 1 < 2 * width ks
     first-fewer = falls first-lent
 
-    pub first-back : {net v net₁ : List ℕ} {e₁ : Extent} → Written a (treeOf m (stageAt a (rest (8 * c) w₁) 0 (cells a))) (rest (8 * c) w₁) net r e₁ v net₁
+    pub first-back : {net v net₁ : List ℕ} {e₁ : Extent} → Written a (treeOf m (stageAt a (rest (8 * c) w₁) 0 (cells a))) true (rest (8 * c) w₁) net r e₁ v net₁
         → Back (8 * c) w₁ v (putMid (8 * c) (length w₁ - 8 * c) w₁ v)
     first-back x = child-back first-lent (x .len)
 
     -- once it is done
-    module _ {net v net₁ w₂ : List ℕ} {e₁ : Extent} (x : Written a (treeOf m (stageAt a (rest (8 * c) w₁) 0 (cells a))) (rest (8 * c) w₁) net r e₁ v net₁) (k : Back (8 * c) w₁ v w₂) where
-      first-done : Written (A .ks) (treeOf m A) (rest (8 * c) w₁) net r e₁ v net₁
+    module _ {net v net₁ w₂ : List ℕ} {e₁ : Extent} (x : Written a (treeOf m (stageAt a (rest (8 * c) w₁) 0 (cells a))) true (rest (8 * c) w₁) net r e₁ v net₁) (k : Back (8 * c) w₁ v w₂) where
+      first-done : Written (A .ks) (treeOf m A) true (rest (8 * c) w₁) net r e₁ v net₁
       first-done = written-as m A first-stage x
 
       same-length : length w₂ ≡ length w
@@ -120,7 +127,7 @@ module _ {gate : Gate} {m : ℕ} {ks : List ℕ} {l : Limits} {s t c : ℕ} {w :
           record { lows = kept-part 0 (omega arith) ∙ u .lows; seconds = sym (there w₂ (λ i. i) o) ∙ kept-part c (omega arith) ∙ there w₁ (λ i. i) o ∙ u .seconds }
 
       block-here : part w₂ (8 * c) (cells a) ≡ computed (A .ks) (treeOf m A)
-      block-here = child-function first-lent k (first-done .function)
+      block-here = child-function first-lent k (first-done .function refl)
 
       given : moved a ks (part w₂ (8 * c) (cells a)) ≡ g
       given = ap₂ (λ (p q : List ℕ). moved p ks q) (f .places) block-here ∙ sym (first-moved m y ready gate s t admits)
@@ -164,23 +171,23 @@ module _ {gate : Gate} {m : ℕ} {ks : List ℕ} {l : Limits} {s t c : ℕ} {w :
         second-ready-here : Ready m B
         second-ready-here = second-ready m gate s t y ready admits g (first-inside m (treeOf m) (width ks) (λ z h q. network-ok m z q) y (omega arith) ready gate s t admits)
 
-        pub second-starts : {n : ℕ} → n ≡ cells b → Starts m b n (rest (8 * c) w₃) (e₁ .next)
+        pub second-starts : {n : ℕ} → n ≡ cells b → Starts m b n false (rest (8 * c) w₃) (e₁ .next)
         second-starts e =
             let i = j .numbers in
             let p = first-done .put .extent .next in
-            child-starts second-lent (B .limits) e second-stage second-ready-here (omega arith)
+            child-starts second-lent (B .limits) e second-stage second-ready-here unknown (omega arith)
 
         pub second-fewer : 2 * width b + 1 < 2 * width ks
         second-fewer = falls second-lent
 
-        pub second-back : {v′ net₂ : List ℕ} {e₂ : Extent} → Written b (treeOf m (stageAt b (rest (8 * c) w₃) 0 (cells b))) (rest (8 * c) w₃) net₁ (e₁ .next) e₂ v′ net₂
+        pub second-back : {want : Bool} {v′ net₂ : List ℕ} {e₂ : Extent} → Written b (treeOf m (stageAt b (rest (8 * c) w₃) 0 (cells b))) want (rest (8 * c) w₃) net₁ (e₁ .next) e₂ v′ net₂
             → Back (8 * c) w₃ v′ (putMid (8 * c) (length w₃ - 8 * c) w₃ v′)
         second-back x′ = child-back second-lent (x′ .len)
 
         -- both are done
-        module _ {v′ net₂ w₄ : List ℕ} {e₂ : Extent} (x′ : Written b (treeOf m (stageAt b (rest (8 * c) w₃) 0 (cells b))) (rest (8 * c) w₃) net₁ (e₁ .next) e₂ v′ net₂)
+        module _ {want : Bool} {v′ net₂ w₄ : List ℕ} {e₂ : Extent} (x′ : Written b (treeOf m (stageAt b (rest (8 * c) w₃) 0 (cells b))) want (rest (8 * c) w₃) net₁ (e₁ .next) e₂ v′ net₂)
             (k′ : Back (8 * c) w₃ v′ w₄) where
-          second-done : Written (B .ks) (treeOf m B) (rest (8 * c) w₃) net₁ (e₁ .next) e₂ v′ net₂
+          second-done : Written (B .ks) (treeOf m B) want (rest (8 * c) w₃) net₁ (e₁ .next) e₂ v′ net₂
           second-done = written-as m B second-stage x′
 
           pub close-room : JoinedRoom w₄ ks b c × GateRoom e₁ e₂
@@ -202,17 +209,17 @@ module _ {gate : Gate} {m : ℕ} {ks : List ℕ} {l : Limits} {s t c : ℕ} {w :
               let n = whole-length in
               back-front (6 * c) (cells ks) k′ (omega arith) (omega arith) ∙ z .first ∙ ap₂ (λ (p q : List ℕ). moved p ks q) (f .places) block-here
 
-          second-part : moved b ks (part w₄ (8 * c) (cells b)) ≡ moved (B .ks) ks (computed (B .ks) (treeOf m B))
-          second-part =
-              ap₂ (λ (p q : List ℕ). moved p ks q) (z .places) (child-function second-lent k′ (second-done .function))
+          second-part : want ≡ true → moved b ks (part w₄ (8 * c) (cells b)) ≡ moved (B .ks) ks (computed (B .ks) (treeOf m B))
+          second-part h =
+              ap₂ (λ (p q : List ℕ). moved p ks q) (z .places) (child-function second-lent k′ (second-done .function h))
 
-          pub joined-whole : {of : Extent} {w₅ net₃ : List ℕ} → Closed gate ks b c e₁ e₂ w₄ net₂ of w₅ net₃ → Written ks (joinTree m (treeOf m) gate s t y) w net r of w₅ net₃
+          pub joined-whole : {of : Extent} {w₅ net₃ : List ℕ} → Closed gate ks b c e₁ e₂ want w₄ net₂ of w₅ net₃ → Written ks (joinTree m (treeOf m) gate s t y) want w net r of w₅ net₃
           joined-whole d =
               record {
                 put = tree-gate (first-done .put) (second-done .put) (d .gate);
-                function =
-                    d .function .here
-                    ∙ ap₂ (λ (p q : List ℕ). tabulate (cells ks) (λ i. combine gate (at p i) (at q i))) first-part second-part
+                function = λ h.
+                    d .function .on h .here
+                    ∙ ap₂ (λ (p q : List ℕ). tabulate (cells ks) (λ i. combine gate (at p i) (at q i))) first-part (second-part h)
                     ∙ sym (joined m y ready gate s t admits);
-                len = d .function .len ∙ k′ .len ∙ whole-length;
+                len = wanted-length (d .function) (λ f. f .len) ∙ k′ .len ∙ whole-length;
               }

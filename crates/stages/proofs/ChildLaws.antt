@@ -1,6 +1,7 @@
 -- A stage that another one starts.
 use Prim.Native.Nat.{ℕ, _+_, _-_, _*_, _≤_, _<_}
 use mathlib.Core.Path.{_≡_, sym, _∙_, ap, subst}
+use mathlib.Core.Bool.{Bool, true}
 use mathlib.Core.List.{List}
 use native.Mathlib.Omega.{arith}
 use borrow.Rule.Slice.PartMut.{putMid}
@@ -12,6 +13,7 @@ use Rattle.rules.specs.Stage.{Stage, treeOf}
 use Rattle.laws.proofs.TestLaws.{by-test}
 use Rattle.laws.proofs.CellLaws.{card-in, card-out, without-lt, without-half}
 use Rattle.laws.proofs.StageLaws.{Ready}
+use Rattle.masks.specs.Masks.{Known}
 use Rattle.tables.specs.Part.{part, Shaped, stageAt}
 use Rattle.stage_drops.specs.Working.{Proper}
 use Rattle.stage_blocks.specs.Blocks.{stageOf}
@@ -32,19 +34,22 @@ few-without t ks h i =
 
 -- what the buffer holds is the stage A
 module _ (m : ℕ) {a w : List ℕ} (A : Stage) (e : stageAt a w 0 (cells a) ≡ A) where
-  pub starts-as : {c r : ℕ} → c ≡ cells a → Shaped (A .ks) → ((i : ℕ) → card (A .ks) i ≤ 8) → 16 * cells (A .ks) ≤ length w → Ready m A → Numbered (treeOf m A) r → Starts m a c w r
-  starts-as {c} {r} o s f l p t =
+  pub starts-as : {c r : ℕ} {known : Bool} → c ≡ cells a → Shaped (A .ks) → ((i : ℕ) → card (A .ks) i ≤ 8) → 16 * cells (A .ks) ≤ length w → Ready m A
+      → (known ≡ true → Known m a w) → Numbered (treeOf m A) r → Starts m a c known w r
+  starts-as {c} {r} o s f l p k t =
       record {
         own = o;
         shaped = subst (λ (x : Stage). Shaped (x .ks)) (sym e) s;
         few = subst (λ (x : Stage). (i : ℕ) → card (x .ks) i ≤ 8) (sym e) f;
         work = subst (λ (x : Stage). 16 * cells (x .ks) ≤ length w) (sym e) l;
         proper = subst (Proper m) (sym e) (ready-proper p);
+        masks = k;
         numbers = subst (λ (x : Stage). Numbered (treeOf m x) r) (sym e) t;
       }
 
-  pub written-as : {net : List ℕ} {r : ℕ} {of : Extent} {w′ net′ : List ℕ} → Written a (treeOf m (stageAt a w 0 (cells a))) w net r of w′ net′ → Written (A .ks) (treeOf m A) w net r of w′ net′
-  written-as {net} {r} {of} {w′} {net′} h = subst (λ (x : Stage). Written (x .ks) (treeOf m x) w net r of w′ net′) e h
+  pub written-as : {want : Bool} {net : List ℕ} {r : ℕ} {of : Extent} {w′ net′ : List ℕ} → Written a (treeOf m (stageAt a w 0 (cells a))) want w net r of w′ net′
+      → Written (A .ks) (treeOf m A) want w net r of w′ net′
+  written-as {want} {net} {r} {of} {w′} {net′} h = subst (λ (x : Stage). Written (x .ks) (treeOf m x) want w net r of w′ net′) e h
 
 -- fewer conditions and half of the cells at most
 pub record Smaller (ks : List ℕ) (d : ℕ) : Type 0 where
@@ -79,16 +84,17 @@ module _ {m : ℕ} {y : Stage} {c : ℕ} {w : List ℕ} {d : ℕ} {a v : List �
   pub child-stage : {A : Stage} → stageAt a v (8 * c) (8 * c + cells a) ≡ A → stageAt a (rest (8 * c) v) 0 (cells a) ≡ A
   child-stage q = rest-stage (8 * c) a v behind ∙ q
 
-  pub child-starts : {k r : ℕ} (l : Limits) → k ≡ cells a → stageAt a (rest (8 * c) v) 0 (cells a) ≡ stageOf (without d (y .ks)) l
-      → Ready m (stageOf (without d (y .ks)) l) → Numbered (treeOf m (stageOf (without d (y .ks)) l)) r → Starts m a k (rest (8 * c) v) r
-  child-starts l i q p f =
+  pub child-starts : {k r : ℕ} {known : Bool} (l : Limits) → k ≡ cells a → stageAt a (rest (8 * c) v) 0 (cells a) ≡ stageOf (without d (y .ks)) l
+      → Ready m (stageOf (without d (y .ks)) l) → (known ≡ true → Known m a (rest (8 * c) v)) → Numbered (treeOf m (stageOf (without d (y .ks)) l)) r
+      → Starts m a k known (rest (8 * c) v) r
+  child-starts l i q p g f =
       let h = behind in
       let o = z .left .own .own in
       let t = z .left .work in
       let u = z .small .half in
       let n = z .len in
       let k = rest-length (8 * c) v in
-      starts-as m (stageOf (without d (y .ks)) l) q i (fewer-shaped d (z .left .own .shaped)) (few-without d (y .ks) (z .left .few)) (omega arith) p f
+      starts-as m (stageOf (without d (y .ks)) l) q i (fewer-shaped d (z .left .own .shaped)) (few-without d (y .ks) (z .left .few)) (omega arith) p g f
 
   pub child-back : {u : List ℕ} → length u ≡ length (rest (8 * c) v) → Back (8 * c) v u (putMid (8 * c) (length v - 8 * c) v u)
   child-back {u} q = let h = behind in back (8 * c) v u (omega arith) q

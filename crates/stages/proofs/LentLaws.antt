@@ -27,7 +27,7 @@ part-alike w v a b n h g e =
     let r : length (part v b n) ≡ n = part-length v b n g in
     ext-getD 0 (part w a n) (part v b n) (l ∙ sym r) (λ k lt. let q : k < n = omega arith in part-at w a n k q ∙ e k q ∙ sym (part-at v b n k q))
 
-rest-part : (a b n : ℕ) (w : List ℕ) → a + b + n ≤ length w → part (rest a w) b n ≡ part w (a + b) n
+pub rest-part : (a b n : ℕ) (w : List ℕ) → a + b + n ≤ length w → part (rest a w) b n ≡ part w (a + b) n
 rest-part a b n w h =
     let l = rest-length a w in
     part-alike (rest a w) w b (a + b) n (omega arith) h

@@ -1,9 +1,9 @@
 -- 01, Stages, step 6: the stages of a split's values, one behind the other.
 use Prim.Native.Nat.{ℕ, zero, suc, _+_, _-_, _*_, _/_, _≤_, _<_}
 use mathlib.Core.Path.{_≡_, refl, sym, _∙_, ap, ap₂, subst}
+use mathlib.Core.Bool.{Bool, true}
 use mathlib.Core.List.{List}
-use mathlib.Core.Logic.{inr}
-use native.Mathlib.Nat.{add-zero, le-refl, mul-le-mul-right}
+use native.Mathlib.Nat.{add-zero, le-refl, suc-mul, mul-le-mul-right}
 use native.Mathlib.Omega.{arith}
 use borrow.Rule.Slice.PartMut.{putMid}
 use borrow.Author.Count.{below-more}
@@ -24,16 +24,21 @@ use Rattle.laws.proofs.StageLaws.{Ready, cofactor-ready, cofactor-lt}
 use Rattle.laws.proofs.FunctionLaws.{splitted}
 use Rattle.places.specs.declared.sets.Condition.{Condition}
 use Rattle.places.specs.Conditions.{IsLowest}
-use Rattle.tables.specs.Part.{part, Laid, Apart, Two, stageAt}
+use Rattle.tables.specs.Part.{part, Laid, stageAt}
 use Rattle.tables.specs.Line.{Spread}
 use Rattle.tables.proofs.PartLaws.{part-at, part-same, part-length, laid-part}
+use Rattle.masks.specs.Masks.{Known}
+use Rattle.masks.proofs.CofactorLaws.{cofactored, cofactored-as}
+use Rattle.masks.proofs.KnownLaws.{known-split}
 use Rattle.stage_drops.specs.Working.{frontStage}
 use Rattle.stage_steps.specs.declared.gates.Extent.{Extent}
 use Rattle.stage_steps.specs.Extents.{TreePut}
-use Rattle.stage_steps.specs.Values.{valueCells, ValueRoom, ValueBegun, EndRoom, ValueEnded}
+use Rattle.stage_steps.specs.Values.{ValueRoom, ValueBegun, KeepRoom, EndRoom, ValueEnded}
+use Rattle.stage_steps.specs.Wanting.{Wanted}
+use Rattle.stage_steps.proofs.WantLaws.{wanted-both, wanted-length}
 use Rattle.stage_steps.proofs.ExtentLaws.{gate-room, gate-extent, tree-gate}
 use Rattle.stages.specs.Staging.{Starts, Written, Splits}
-use Rattle.stages.proofs.LentLaws.{rest, Back, back}
+use Rattle.stages.proofs.LentLaws.{rest, rest-part, Back}
 use Rattle.stages.proofs.ChildLaws.{proper-ready, written-as, Smaller, Lent, falls, child-stage, child-starts, child-back, child-function}
 
 -- the tree of the values up to k, and of those before it
@@ -109,28 +114,28 @@ pub record Axis (ks : List ℕ) (i : ℕ) (b : List ℕ) (n values : ℕ) : Type
   pub count : n ≡ cells b
   pub cardinality : values ≡ card ks (lowest ks)
 
--- the values below k are done
-pub record Turn (m : ℕ) (ks : List ℕ) (c : ℕ) (w₀ net₀ : List ℕ) (r k : ℕ) (total : Extent) (w net : List ℕ) : Type 0 where
+-- the values below k are done: the limits and the masks stay, and their functions are in part 4 where they are wanted
+pub record Turn (m : ℕ) (ks : List ℕ) (c : ℕ) (want : Bool) (w₀ net₀ : List ℕ) (r k : ℕ) (total : Extent) (w net : List ℕ) : Type 0 where
   pub so-far : SoFar m (frontStage ks w₀) net₀ r k total net
-  pub stage : frontStage ks w ≡ frontStage ks w₀
-  pub done : (q j : ℕ) → q < k → j < cells (without (singleton (lowest ks)) ks)
-      → at w (2 * c + q + card ks (lowest ks) * j) ≡ at (computed (without (singleton (lowest ks)) ks) (treeOf m (cofactorStage q (frontStage ks w₀)))) j
+  pub front : (j : ℕ) → j < 4 * c → at w j ≡ at w₀ j
+  pub done : want ≡ true → (q j : ℕ) → q < k → j < cells (without (singleton (lowest ks)) ks)
+      → at w (4 * c + q + card ks (lowest ks) * j) ≡ at (computed (without (singleton (lowest ks)) ks) (treeOf m (cofactorStage q (frontStage ks w₀)))) j
   pub len : length w ≡ length w₀
 
-pub turn-none : (m : ℕ) (ks : List ℕ) (c : ℕ) (w net : List ℕ) (r : ℕ) → Turn m ks c w net r 0 (record { next = r; depth = 0 }) w net
-turn-none m ks c w net r =
+pub turn-none : (m : ℕ) (ks : List ℕ) (c : ℕ) (want : Bool) (w net : List ℕ) (r : ℕ) → Turn m ks c want w net r 0 (record { next = r; depth = 0 }) w net
+turn-none m ks c want w net r =
     record {
       so-far = record { none = λ z. (refl, refl); some = λ h. absurd (omega arith) };
-      stage = refl;
-      done = λ q j h. absurd (omega arith);
+      front = λ j h. refl;
+      done = λ e q j h. absurd (omega arith);
       len = refl;
     }
 
 -- value k in turn
-pub record InTurn (m : ℕ) (ks : List ℕ) (c : ℕ) (w₀ net₀ : List ℕ) (r i : ℕ) (b : List ℕ) (n values k : ℕ) (total : Extent) (w net : List ℕ) : Type 0 where
+pub record InTurn (m : ℕ) (ks : List ℕ) (c : ℕ) (want : Bool) (w₀ net₀ : List ℕ) (r i : ℕ) (b : List ℕ) (n values k : ℕ) (total : Extent) (w net : List ℕ) : Type 0 where
   pub splits : Splits m ks c w₀ r
   pub axis : Axis ks i b n values
-  pub turn : Turn m ks c w₀ net₀ r k total w net
+  pub turn : Turn m ks c want w₀ net₀ r k total w net
   pub below : k < values
 
 module _ {m : ℕ} {ks : List ℕ} {c : ℕ} {w₀ : List ℕ} {r : ℕ} (h : Splits m ks c w₀ r) where
@@ -181,7 +186,7 @@ module _ {m : ℕ} {ks : List ℕ} {c : ℕ} {w₀ : List ℕ} {r : ℕ} (h : Sp
     all-cells = ap₂ (λ (p q : ℕ). p * q) (a .cardinality) cell-count ∙ lowest-cells ks (ready .pos) some
 
     -- value k in turn
-    module _ {net₀ : List ℕ} {k : ℕ} {total : Extent} {w net : List ℕ} (u : Turn m ks c w₀ net₀ r k total w net) (lt : k < values) where
+    module _ {want : Bool} {net₀ : List ℕ} {k : ℕ} {total : Extent} {w net : List ℕ} (u : Turn m ks c want w₀ net₀ r k total w net) (lt : k < values) where
       -- the numbers of its records
       few : r + size (up-to m x k) ≤ 65536
       few = let q = a .cardinality in let g = size-most m x k v (omega arith) in let j = h .numbers in omega arith
@@ -206,8 +211,20 @@ module _ {m : ℕ} {ks : List ℕ} {c : ℕ} {w₀ : List ℕ} {r : ℕ} (h : Sp
         length-one : length w₁ ≡ length w₀
         length-one = g .len ∙ u .len
 
-        limits-at : (f : List ℕ) → valueCells f n values k ≡ tabulate (cells b) (λ j. at f (k + v * j))
-        limits-at f = ap₂ (λ (p q : ℕ). valueCells f p q k) cell-count (a .cardinality)
+        -- the limits and the masks of its cells
+        table-at : (q : ℕ) → q < 4 → part w₁ (8 * c + q * cells b) (cells b) ≡ cofactored ks k (part w₀ (q * cells ks) (cells ks))
+        table-at q l =
+            ap (λ (z : ℕ). part w₁ (8 * c + q * z) z) (sym cell-count) ∙ g .tables q l
+            ∙ cofactored-as ks (part w (q * c) (values * n)) n values k cell-count (a .cardinality)
+            ∙ ap (cofactored ks k) (ap₂ (λ (y z : ℕ). part w (q * y) z) (h .left .own .own) all-cells ∙ same)
+          where
+            same : part w (q * cells ks) (cells ks) ≡ part w₀ (q * cells ks) (cells ks)
+            same =
+                let o = h .left .own .own in
+                let s = h .left .work in
+                let e : suc q * cells ks ≤ 4 * cells ks = mul-le-mul-right (cells ks) l in
+                let f = suc-mul q (cells ks) in
+                part-same w₀ w (q * cells ks) (cells ks) (omega arith) (u .len) (λ j lj. u .front (q * cells ks + j) (omega arith))
 
         value-lent : Lent m x c w₀ (singleton (lowest ks)) b₀ w₁
         value-lent = record { left = h .left; small = small; places = a .places; len = length-one }
@@ -217,28 +234,40 @@ module _ {m : ℕ} {ks : List ℕ} {c : ℕ} {w₀ : List ℕ} {r : ℕ} (h : Sp
             child-stage value-lent
             (ap (λ (p : List ℕ). stageAt p w₁ (8 * c) (8 * c + cells p)) (a .places)
             ∙ ap₂ (λ (l t : List ℕ). limited (record { lower = l; upper = t }))
-            (ap (part w₁ (8 * c)) (sym cell-count) ∙ g .lows ∙ limits-at (part w 0 (values * n)) ∙ ap (λ (l : List ℕ). cofactor l) (ap (part w 0) all-cells ∙ ap (λ (z : Stage). z .limits .lower) (u .stage)))
-            (ap₂ (λ (p q : ℕ). part w₁ (8 * c + p) q) (sym cell-count) (sym cell-count) ∙ g .highs ∙ limits-at (part w c (values * n))
-            ∙ ap (λ (l : List ℕ). cofactor l) (ap₂ (part w) (h .left .own .own) all-cells ∙ ap (λ (z : Stage). z .limits .upper) (u .stage))))
+            (one 0 (8 * c) 0 (omega arith) (omega arith) (omega arith)) (one 1 (8 * c + cells b) (cells ks) (omega arith) (omega arith) (omega arith)))
           where
             limited : Limits → Stage
             limited l = record { ks = b; limits = l }
 
-            cofactor : List ℕ → List ℕ
-            cofactor f = tabulate (cells b) (λ j. at f (k + v * j))
+            one : (q i d : ℕ) → q < 4 → 8 * c + q * cells b ≡ i → q * cells ks ≡ d → part w₁ i (cells b) ≡ cofactored ks k (part w₀ d (cells ks))
+            one q i d l e f = ap (λ (z : ℕ). part w₁ z (cells b)) (sym e) ∙ table-at q l ∙ ap (λ (z : ℕ). cofactored ks k (part w₀ z (cells ks))) f
+
+        value-known : Known m b₀ (rest (8 * c) w₁)
+        value-known =
+            subst (λ (p : List ℕ). Known m p (rest (8 * c) w₁)) (sym (a .places))
+            (known-split k (ready .pos) some (let y = a .cardinality in omega arith) (rest (8 * c) w₁)
+            (λ q l.
+            let o = h .left .own .own in
+            let s = h .left .work in
+            let d = length-one in
+            let e : suc q * cells b ≤ 4 * cells b = mul-le-mul-right (cells b) l in
+            let f = suc-mul q (cells b) in
+            let p = small .half in
+            rest-part (8 * c) (q * cells b) (cells b) w₁ (omega arith) ∙ table-at q l)
+            (h .masks))
 
         pub value-fewer : 2 * width b₀ + 1 < 2 * width ks
         value-fewer = falls value-lent
 
-        pub value-starts : Starts m b₀ n (rest (8 * c) w₁) (literal .next)
+        pub value-starts : Starts m b₀ n true (rest (8 * c) w₁) (literal .next)
         value-starts =
             let y = a .cardinality in
-            child-starts value-lent (cofactorStage k x .limits) (a .count) value-stage (cofactor-ready x (ready .pos) some k m ready (omega arith))
+            child-starts value-lent (cofactorStage k x .limits) (a .count) value-stage (cofactor-ready x (ready .pos) some k m ready (omega arith)) (λ e. value-known)
             (let z = part-few in let f = g .put .extent .next in omega arith)
 
         -- its stage is done
-        module _ {v′ net₂ : List ℕ} {of : Extent} (y : Written b₀ (treeOf m (stageAt b₀ (rest (8 * c) w₁) 0 (cells b₀))) (rest (8 * c) w₁) net₁ (literal .next) of v′ net₂) where
-          child-done : Written b (treeOf m (cofactorStage k x)) (rest (8 * c) w₁) net₁ (literal .next) of v′ net₂
+        module _ {v′ net₂ : List ℕ} {of : Extent} (y : Written b₀ (treeOf m (stageAt b₀ (rest (8 * c) w₁) 0 (cells b₀))) want (rest (8 * c) w₁) net₁ (literal .next) of v′ net₂) where
+          child-done : Written b (treeOf m (cofactorStage k x)) want (rest (8 * c) w₁) net₁ (literal .next) of v′ net₂
           child-done = written-as m (cofactorStage k x) value-stage y
 
           selected : TreePut (selector m ks k) net (total .next) literal net₁
@@ -256,100 +285,84 @@ module _ {m : ℕ} {ks : List ℕ} {c : ℕ} {w₀ : List ℕ} {r : ℕ} (h : Sp
             length-two : length w₂ ≡ length w₀
             length-two = z .len ∙ length-one
 
-            pub value-spread : Apart w₂ (8 * c) n (2 * c) (values * n)
-            value-spread =
+            pub value-keep : KeepRoom w₂ n values c k
+            value-keep =
                 let o = h .left .own .own in
                 let s = h .left .work in
                 let d = length-two in
                 let p = small .half in
                 let q = cell-count in
                 let y = all-cells in
-                record { src = omega arith; dst = omega arith; apart = inr (omega arith) }
+                record { below = lt; own = omega arith; work = omega arith }
 
             -- what stood in the parts of the stage
             before-child : (j : ℕ) → j < 8 * c → at w₂ j ≡ at w j
             before-child j l = z .front j l ∙ g .before j l
 
-            child-table : (j : ℕ) → j < cells b → at (part w₂ (8 * c) n) j ≡ at (computed b (treeOf m (cofactorStage k x))) j
-            child-table j l = ap (λ (f : List ℕ). at f j) (ap (part w₂ (8 * c)) (a .count) ∙ child-function value-lent z (child-done .function))
+            child-table : want ≡ true → (j : ℕ) → j < cells b → at (part w₂ (8 * c) n) j ≡ at (computed b (treeOf m (cofactorStage k x))) j
+            child-table e j l = ap (λ (f : List ℕ). at f j) (ap (part w₂ (8 * c)) (a .count) ∙ child-function value-lent z (child-done .function e))
 
-            -- its function is spread over the cells with value k
-            module _ {w₃ : List ℕ} (f : Spread w₂ (2 * c + k) values (at (part w₂ (8 * c) n)) n w₃) where
-              off-line : (j : ℕ) → j < 2 * c → at w₃ j ≡ at w j
-              off-line j l = f .off j (λ q lt e. omega arith) ∙ before-child j (omega arith)
+            -- its function is spread over the cells with value k, where it is wanted
+            module _ {w₃ : List ℕ} (f : Wanted want (Spread w₂ (4 * c + k) values (at (part w₂ (8 * c) n)) n) w₂ w₃) where
+              off-line : (j : ℕ) → j < 4 * c → at w₃ j ≡ at w j
+              off-line j l = wanted-both f (λ s. s .off j (λ q lt e. omega arith)) (λ e. ap (λ (v : List ℕ). at v j) e) ∙ before-child j (omega arith)
 
-              kept-part : (o : ℕ) → o + cells ks ≤ 2 * c → part w₃ o (cells ks) ≡ part w o (cells ks)
-              kept-part o l =
-                  let s = h .left .work in
-                  let d = u .len in
-                  let t = length-two in
-                  part-same w w₃ o (cells ks) (omega arith) (f .len ∙ t ∙ sym d) (λ j lt. off-line (o + j) (omega arith))
-
-              other-value : (q j : ℕ) → q < k → j < cells b → at w₃ (2 * c + q + v * j) ≡ at w (2 * c + q + v * j)
-              other-value q j l lj =
+              other-value : want ≡ true → (q j : ℕ) → q < k → j < cells b → at w₃ (4 * c + q + v * j) ≡ at w (4 * c + q + v * j)
+              other-value e q j l lj =
                   let y = a .cardinality in
                   let o = h .left .own .own in
                   let t : q + v * j < cells ks = cofactor-lt x (ready .pos) some q j (omega arith) lj in
-                  f .off (2 * c + q + v * j)
+                  f .on e .off (4 * c + q + v * j)
                   (λ i li e.
                   let s : v * i ≡ values * i = ap (λ (p : ℕ). p * i) (sym y) in
                   let same : q + v * j ≡ k + v * i = omega arith in
                   let di : i < cells b = let n = cell-count in omega arith in
                   let digits : q ≡ k = sym (lowest-digit ks q j (ready .pos) some (omega arith) lj) ∙ ap (λ (p : ℕ). value ks p (lowest ks)) same ∙ lowest-digit ks k i (ready .pos) some (omega arith) di in
                   omega arith)
-                  ∙ before-child (2 * c + q + v * j) (omega arith)
+                  ∙ before-child (4 * c + q + v * j) (omega arith)
 
-              this-value : (j : ℕ) → j < cells b → at w₃ (2 * c + k + v * j) ≡ at (computed b (treeOf m (cofactorStage k x))) j
-              this-value j l =
+              this-value : want ≡ true → (j : ℕ) → j < cells b → at w₃ (4 * c + k + v * j) ≡ at (computed b (treeOf m (cofactorStage k x))) j
+              this-value e j l =
                   let n = cell-count in
-                  ap (λ (p : ℕ). at w₃ (2 * c + k + p * j)) (sym (a .cardinality)) ∙ f .on j (omega arith) ∙ child-table j l
+                  ap (λ (p : ℕ). at w₃ (4 * c + k + p * j)) (sym (a .cardinality)) ∙ f .on e .on j (omega arith) ∙ child-table e j l
 
-              pub turn-more : {total′ : Extent} {net₃ : List ℕ} → ValueEnded k total literal of net₂ total′ net₃ → Turn m ks c w₀ net₀ r (k + 1) total′ w₃ net₃
+              pub turn-more : {total′ : Extent} {net₃ : List ℕ} → ValueEnded k total literal of net₂ total′ net₃ → Turn m ks c want w₀ net₀ r (k + 1) total′ w₃ net₃
               turn-more p =
-                  let o = h .left .own .own in
                   record {
                     so-far = so-far-more m x (u .so-far) selected (child-done .put) few p;
-                    stage = ap₂ (λ (l t : List ℕ). limited (record { lower = l; upper = t })) (kept-part 0 (omega arith)) (kept-part (cells ks) (omega arith)) ∙ u .stage;
+                    front = λ j l. off-line j l ∙ u .front j l;
                     done =
-                        λ q j l lt.
-                        below-more (λ (q : ℕ). at w₃ (2 * c + q + v * j) ≡ at (computed b (treeOf m (cofactorStage q x))) j) k
-                        (λ q l. other-value q j l lt ∙ u .done q j l lt) (this-value j lt) q l;
-                    len = f .len ∙ length-two;
+                        λ e q j l lt.
+                        below-more (λ (q : ℕ). at w₃ (4 * c + q + v * j) ≡ at (computed b (treeOf m (cofactorStage q x))) j) k
+                        (λ q l. other-value e q j l lt ∙ u .done e q j l lt) (this-value e j lt) q l;
+                    len = wanted-length f (λ s. s .len) ∙ length-two;
                   }
-                where
-                  limited : Limits → Stage
-                  limited l = record { ks = ks; limits = l }
 
     -- all values done, and their functions copied to the front
-    module _ {net₀ : List ℕ} {k : ℕ} {total : Extent} {w net : List ℕ} (u : Turn m ks c w₀ net₀ r k total w net) (e : k ≡ values) where
-      pub copy-room : Two w (2 * c) 0 (values * n)
-      copy-room =
-          let o = h .left .own .own in
-          let s = h .left .work in
-          let d = u .len in
-          let y = all-cells in
-          record { src = omega arith; dst = omega arith; apart = inr (omega arith) }
+    module _ {want : Bool} {net₀ : List ℕ} {k : ℕ} {total : Extent} {w net : List ℕ} (u : Turn m ks c want w₀ net₀ r k total w net) (e : k ≡ values) where
+      pub collect-room : 5 * c ≤ length w
+      collect-room = let s = h .left .work in let d = u .len in omega arith
 
-      pub split-whole : {w′ : List ℕ} → Laid w 0 (part w (2 * c) (values * n)) (values * n) w′ → Written ks (choiceTree m (treeOf m) split x) w₀ net₀ r total w′ net
+      pub split-whole : {w′ : List ℕ} → Wanted want (Laid w 0 (part w (4 * c) c) c) w w′ → Written ks (choiceTree m (treeOf m) split x) want w₀ net₀ r total w′ net
       split-whole {w′} l =
-          let z = copy-room in
-          let y = all-cells in
           let d = a .cardinality in
           record {
             put =
                 subst (λ (q : ℕ). TreePut (up-to m x (q - 1)) net₀ r total net) (e ∙ d)
                 (u .so-far .some (let t = lowest-two ks (ready .pos) some in omega arith));
-            function =
-                ap (part w′ 0) (sym y) ∙ laid-part l (let s = z .dst in omega arith) (part-length w (2 * c) (values * n) (z .src)) ∙ ap (part w (2 * c)) y ∙ all-values;
-            len = l .len ∙ u .len;
+            function = λ q.
+                let s = collect-room in
+                let o = h .left .own .own in
+                ap (part w′ 0) (sym o) ∙ laid-part (l .on q) (omega arith) (part-length w (4 * c) c (omega arith)) ∙ ap (part w (4 * c)) o ∙ all-values q;
+            len = wanted-length l (λ s. s .len) ∙ u .len;
           }
         where
-          all-values : part w (2 * c) (cells ks) ≡ computed ks (choiceTree m (treeOf m) split x)
-          all-values =
+          all-values : want ≡ true → part w (4 * c) (cells ks) ≡ computed ks (choiceTree m (treeOf m) split x)
+          all-values wanted =
               let o = h .left .own .own in
               let s = h .left .work in
               let d = u .len in
-              let n = part-length w (2 * c) (cells ks) (omega arith) in
+              let n = part-length w (4 * c) (cells ks) (omega arith) in
               ext-getD 0 _ _ (n ∙ sym (length-tabulateFrom _ 0 (cells ks)))
               (λ q lt.
               let lq : q < cells ks = omega arith in
@@ -358,7 +371,7 @@ module _ {m : ℕ} {ks : List ℕ} {c : ℕ} {w₀ : List ℕ} {r : ℕ} (h : Sp
               let back : digit + v * other ≡ q = lowest-cell ks q (ready .pos) some lq in
               let ld : digit < v = value-lt ks q (lowest ks) (ready .pos) in
               let lo : other < cells b = cell-lt b (value ks q) (without-pos (singleton (lowest ks)) ks (ready .pos)) in
-              let f : 2 * c + q ≡ 2 * c + digit + v * other = omega arith in
+              let f : 4 * c + q ≡ 4 * c + digit + v * other = omega arith in
               let t = a .cardinality in
-              part-at w (2 * c) (cells ks) q lq ∙ ap (at w) f ∙ u .done digit other (omega arith) lo
+              part-at w (4 * c) (cells ks) q lq ∙ ap (at w) f ∙ u .done wanted digit other (omega arith) lo
               ∙ sym (splitted m x ready some digit other ld lo) ∙ ap (at (computed ks (choiceTree m (treeOf m) split x))) back)

@@ -10,8 +10,8 @@ use Rattle.rules.specs.Cell.{width}
 use Rattle.rules.specs.Stage.{treeOf}
 use Rattle.stage_drops.specs.Working.{frontStage}
 use Rattle.stages.specs.Staging.{Written, Splits}
-use Rattle.stages.proofs.SplitStageLaws.{Axis, Turn, InTurn, turn-none, number-below, values-some, axis, all-cells, value-room, value-starts, value-fewer, value-back, gates-room, value-spread, turn-more, copy-room, split-whole}
-use Rattle.stages.proofs.StageEndLaws.{written-here, own-room, fewer, spread-room, whole, wide-here, leaf-room, leaf-whole, choose-room, splits, split-done, joins, join-done}
+use Rattle.stages.proofs.SplitStageLaws.{Axis, Turn, InTurn, turn-none, number-below, values-some, axis, value-room, value-starts, value-fewer, value-back, gates-room, value-keep, turn-more, collect-room, split-whole}
+use Rattle.stages.proofs.StageEndLaws.{written-here, plan-room, fewer, spread-room, whole, leaf-room, leaf-done, splits, split-done, joins, join-done}
 use Rattle.stages.proofs.BlockStageLaws.{first-room, first-starts, first-fewer, first-back, second-room, second-starts, second-fewer, second-back, close-room, joined-whole}
 use borrow.Fn.Kinds.{In}
 use borrow.Fn.PlainCycle.{Measures, is, falls, and}
@@ -25,19 +25,17 @@ use Rattle.stages.proofs.stage.Reads as stage
 use Rattle.stages.proofs.stage.Kinds as stage-kinds
 use Rattle.stages.proofs.+join+split+stage.Lts-stage as stage-lts
 use Rattle.places.proofs.cell_count.Reads as cell-count-reads
-use Rattle.places.proofs.sets.lowest.Reads as lowest-reads
 use Rattle.places.proofs.sets.without_one.Reads as without-one-reads
-use Rattle.stage_drops.proofs.drop_all.Reads as drop-all-reads
 use Rattle.stage_blocks.proofs.first_table.Reads as first-table-reads
 use Rattle.stage_blocks.proofs.second_table.Reads as second-table-reads
-use Rattle.stage_choice.proofs.choose.Reads as choose-reads
+use Rattle.stage_plan.proofs.plan_stage.Reads as plan-stage-reads
 use Rattle.stage_steps.proofs.ends.close_join.Reads as close-join-reads
 use Rattle.stage_steps.proofs.ends.leaf.Reads as leaf-reads
-use Rattle.stage_steps.proofs.ends.spread.Reads as spread-reads
+use Rattle.stage_steps.proofs.ends.spread_if.Reads as spread-if-reads
 use Rattle.stage_steps.proofs.values.begin_value.Reads as begin-value-reads
+use Rattle.stage_steps.proofs.values.collect.Reads as collect-reads
 use Rattle.stage_steps.proofs.values.end_value.Reads as end-value-reads
-use Rattle.tables.proofs.fill.copy.Reads as copy-reads
-use Rattle.moves.proofs.uncofactor.Reads as uncofactor-reads
+use Rattle.stage_steps.proofs.values.keep_value.Reads as keep-value-reads
 use Rattle.stages.proofs.+join+split+stage.{statement}
 use Rattle.stages.proofs.+join+split+stage.Tie.{close}
 
@@ -74,11 +72,11 @@ join-claims t = (first-table-reads.Asked, first-table-reads.Learnt, cell-count-r
 
 -- what `split` asks and learns of the functions that it calls
 abbrev split-claims : ℕ → split-lts.Claims
-split-claims t = (without-one-reads.Asked, without-one-reads.Learnt, begin-value-reads.Asked, begin-value-reads.Learnt, stage-below t, stage.Post, uncofactor-reads.Asked, uncofactor-reads.Learnt, end-value-reads.Asked, end-value-reads.Learnt, copy-reads.Asked, copy-reads.Learnt)
+split-claims t = (without-one-reads.Asked, without-one-reads.Learnt, begin-value-reads.Asked, begin-value-reads.Learnt, stage-below t, stage.Post, keep-value-reads.Asked, keep-value-reads.Learnt, end-value-reads.Asked, end-value-reads.Learnt, collect-reads.Asked, collect-reads.Learnt)
 
 -- what `stage` asks and learns of the functions that it calls
 abbrev stage-claims : ℕ → stage-lts.Claims
-stage-claims t = (drop-all-reads.Asked, drop-all-reads.Learnt, lowest-reads.Asked, lowest-reads.Learnt, leaf-reads.Asked, leaf-reads.Learnt, spread-reads.Asked, spread-reads.Learnt, choose-reads.Asked, choose-reads.Learnt, split-below t, split.Post, join-below t, join.Post)
+stage-claims t = (plan-stage-reads.Asked, plan-stage-reads.Learnt, leaf-reads.Asked, leaf-reads.Learnt, split-below t, split.Post, join-below t, join.Post, spread-if-reads.Asked, spread-if-reads.Learnt)
 
 join-mul-rest : (t : ℕ) → join-lts.Need-mul-rest (join-claims t) (join-at t) join.Post
 join-mul-rest t c =
@@ -187,11 +185,11 @@ join-same-length-2 : (t : ℕ) → join-lts.Need-same-length-2 (join-claims t) (
 join-same-length-2 t c = join-returns t c .whole _ (c .before .before .before .before .before .before .before .before .before .before .before .before .before .before .before .before .before .before .before .before .before .before .before .before .before .before .before .before .before .before .before .before .before .pre .1 .1) .put .put .len
 
 abbrev split-Inv-loop : split-lts.InvT-loop
-split-Inv-loop w₀ network₀ m c r i values b n rest total₀ k₀ w network total k =
-    (k ≤ values) × ((ks : List ℕ) → Splits m ks c w₀ r → Axis ks i b n values → Turn m ks c w₀ network₀ r k total w network)
+split-Inv-loop w₀ network₀ m c r want i values b n rest total₀ k₀ w network total k =
+    (k ≤ values) × ((ks : List ℕ) → Splits m ks c w₀ r → Axis ks i b n values → Turn m ks c want w₀ network₀ r k total w network)
 
 abbrev split-μ-loop : split-lts.MeasureT-loop
-split-μ-loop w₀ network₀ m c r i values b n rest total₀ k₀ w network total k = values - k
+split-μ-loop w₀ network₀ m c r want i values b n rest total₀ k₀ w network total k = values - k
 
 split-without-one-requires : (t : ℕ) → split-lts.Need-without-one-requires (split-claims t) (split-at t) split.Post split-Inv-loop split-μ-loop
 split-without-one-requires t c κs =
@@ -211,14 +209,14 @@ split-mul-rest : (t : ℕ) → split-lts.Need-mul-rest (split-claims t) (split-a
 split-mul-rest t c = let h = c .before .before .before .pre .1 .0 .left .work in search needs
 
 split-loop-holds : (t : ℕ) → split-lts.Need-loop-holds (split-claims t) (split-at t) split.Post split-Inv-loop split-μ-loop
-split-loop-holds t c = (omega arith, λ ks h a. turn-none _ ks _ _ _ _)
+split-loop-holds t c = (omega arith, λ ks h a. turn-none _ ks _ _ _ _ _)
 
 -- the value in turn
 split-value : (t : ℕ) (c : split-lts.In-loop (split-claims t) (split-at t) split.Post split-Inv-loop split-μ-loop)
     → let q = c .before .before in
     let a = q .before .before .before .args in
     let l = c .before .loop in
-    InTurn (a .m) (a .ks) (a .c) (a .w .now) (a .network .now) (a .r) (a .low .number) (q .without-one .result) (a .c / a .low .values) (a .low .values) (l .k) (l .total) (l .w) (l .network)
+    InTurn (a .m) (a .ks) (a .c) (a .want) (a .w .now) (a .network .now) (a .r) (a .low .number) (q .without-one .result) (a .c / a .low .values) (a .low .values) (l .k) (l .total) (l .w) (l .network)
 split-value t c =
     let h = c .before .before .before .before .before .pre .1 .0 in
     let a = split-axis t (c .before .before) in
@@ -261,19 +259,12 @@ split-stage-requires t c κs =
     let g = c .before .before .before .before .before .before .begin-value .ensures in
     (let e = c .before .before .before .before .before .before .before .before .before .before .before .before .before .before .pre .0 in let f = value-fewer (z .splits) (z .axis) (z .turn) (z .below) g in omega arith, value-starts (z .splits) (z .axis) (z .turn) (z .below) g)
 
-split-mul-uncofactor : (t : ℕ) → split-lts.Need-mul-uncofactor (split-claims t) (split-at t) split.Post split-Inv-loop split-μ-loop
-split-mul-uncofactor t c =
-    let o = c .before .before .before .before .before .before .before .before .before .before .before .before .before .before .before .before .before .before .before .before .pre .1 .0 .left .own in
-    let e = o .own in
-    let f = o .shaped .few in
-    search needs
-
-split-uncofactor-requires : (t : ℕ) → split-lts.Need-uncofactor-requires (split-claims t) (split-at t) split.Post split-Inv-loop split-μ-loop
-split-uncofactor-requires t c κs =
+split-keep-value-requires : (t : ℕ) → split-lts.Need-keep-value-requires (split-claims t) (split-at t) split.Post split-Inv-loop split-μ-loop
+split-keep-value-requires t c κs =
     let z = split-value t (c .before .before .before .before .before .before .before .before .before .before .before .before .before .before .before) in
     let g = c .before .before .before .before .before .before .before .before .before .before .before .before .begin-value .ensures in
     let y = c .before .before .before .before .before .stage .ensures in
-    (z .below, value-spread (z .splits) (z .axis) (z .turn) (z .below) g y (value-back (z .splits) (z .axis) (z .turn) (z .below) g y))
+    value-keep (z .splits) (z .axis) (z .turn) (z .below) g y (value-back (z .splits) (z .axis) (z .turn) (z .below) g y)
 
 split-end-value-requires : (t : ℕ) → split-lts.Need-end-value-requires (split-claims t) (split-at t) split.Post split-Inv-loop split-μ-loop
 split-end-value-requires t c κs =
@@ -299,33 +290,22 @@ split-loop-again t c =
           let u = p .before .loop .inv .1 ks h a in
           let g = c .before .before .before .before .before .before .before .before .before .before .before .before .before .before .before .before .before .before .before .begin-value .ensures in
           let y = c .before .before .before .before .before .before .before .before .before .before .before .before .stage .ensures in
-          turn-more h a u lt g y (value-back h a u lt g y) (c .before .before .before .before .before .before .uncofactor .ensures) (c .before .before .end-value .ensures),
+          turn-more h a u lt g y (value-back h a u lt g y) (c .before .before .before .before .before .before .keep-value .ensures) (c .before .before .end-value .ensures),
     )
 
-split-mul-copy : (t : ℕ) → split-lts.Need-mul-copy (split-claims t) (split-at t) split.Post split-Inv-loop split-μ-loop
-split-mul-copy t c = let h = c .before .before .before .before .before .before .pre .1 .0 .left .work in search needs
-
-split-mul-copy-2 : (t : ℕ) → split-lts.Need-mul-copy-2 (split-claims t) (split-at t) split.Post split-Inv-loop split-μ-loop
-split-mul-copy-2 t c =
-    let p = c .before .before .before .before .before .before .pre .1 .0 in
-    let h = p .left .own .own in
-    let w = p .left .work in
-    let a = all-cells p (split-axis t (c .before .before .before)) in
-    search needs
-
-split-copy-requires : (t : ℕ) → split-lts.Need-copy-requires (split-claims t) (split-at t) split.Post split-Inv-loop split-μ-loop
-split-copy-requires t c κs =
+split-collect-requires : (t : ℕ) → split-lts.Need-collect-requires (split-claims t) (split-at t) split.Post split-Inv-loop split-μ-loop
+split-collect-requires t c κs =
     let h = c .before .before .before .before .before .before .pre .1 .0 in
     let a = split-axis t (c .before .before .before) in
     let l = c .before .before .loop .inv .0 in
-    copy-room h a (c .before .before .loop .inv .1 _ h a) (omega arith)
+    collect-room h a (c .before .before .loop .inv .1 _ h a) (omega arith)
 
 split-returns : (t : ℕ) → split-lts.Need-returns (split-claims t) (split-at t) split.Post split-Inv-loop split-μ-loop
 split-returns t c =
     let h = c .before .before .before .before .before .before .before .before .before .pre .1 .0 in
     let a = split-axis t (c .before .before .before .before .before .before) in
     let l = c .before .before .before .before .before .loop in
-    split-whole h a (l .inv .1 _ h a) (let m = l .inv .0 in omega arith) (c .before .before .copy .ensures)
+    split-whole h a (l .inv .1 _ h a) (let m = l .inv .0 in omega arith) (c .before .before .collect .ensures)
 
 split-same-length : (t : ℕ) → split-lts.Need-same-length (split-claims t) (split-at t) split.Post split-Inv-loop split-μ-loop
 split-same-length t c = split-returns t c .len
@@ -333,96 +313,61 @@ split-same-length t c = split-returns t c .len
 split-same-length-2 : (t : ℕ) → split-lts.Need-same-length-2 (split-claims t) (split-at t) split.Post split-Inv-loop split-μ-loop
 split-same-length-2 t c = split-returns t c .put .put .len
 
-stage-drop-all-requires : (t : ℕ) → stage-lts.Need-drop-all-requires (stage-claims t) (stage-at t) stage.Post
-stage-drop-all-requires t c κs = own-room (c .before .before .before .pre .1)
+stage-plan-stage-requires : (t : ℕ) → stage-lts.Need-plan-stage-requires (stage-claims t) (stage-at t) stage.Post
+stage-plan-stage-requires t c κs = plan-room (c .before .before .before .pre .1)
 
-stage-lowest-requires : (t : ℕ) → stage-lts.Need-lowest-requires (stage-claims t) (stage-at t) stage.Post
-stage-lowest-requires t c κs = tt
+stage-enum-told : (t : ℕ) → stage-lts.Need-enum-told (stage-claims t) (stage-at t) stage.Post
+stage-enum-told t c = search needs
 
 stage-leaf-requires : (t : ℕ) → stage-lts.Need-leaf-requires (stage-claims t) (stage-at t) stage.Post
-stage-leaf-requires t c κs =
-    let d = c .before .before .before .before .before .before .before .before in
-    leaf-room (d .before .before .before .before .pre .1) (d .drop-all .ensures .0) (c .before .before .before .before .lowest .ensures) (d .drop-all .ensures .1) (c .before .before .if1 .taken)
+stage-leaf-requires t c κs = leaf-room (c .before .before .before .before .before .before .before .before .before .before .before .before .pre .1) (c .before .before .before .before .before .before .before .before .plan-stage .ensures) (c .before .before .enum-told .given .1)
 
-stage-spread-requires : (t : ℕ) → stage-lts.Need-spread-requires (stage-claims t) (stage-at t) stage.Post
-stage-spread-requires t c κs =
-    let d = c .before .before .before .before .before .before .before .before .before .before .before .before in
-    spread-room (d .before .before .before .before .pre .1) (d .drop-all .ensures .0) (d .drop-all .ensures .1) refl
+stage-enum-told-2 : (t : ℕ) → stage-lts.Need-enum-told-2 (stage-claims t) (stage-at t) stage.Post
+stage-enum-told-2 t c = search needs
+
+stage-split-requires : (t : ℕ) → stage-lts.Need-split-requires (stage-claims t) (stage-at t) stage.Post
+stage-split-requires t c κs =
+    let b = c .before .before .before .before .before .before .before .before .before .before .before .before in
+    let p = c .before .before .before .before .before .before .before .before .plan-stage .ensures in
+    (let e = b .pre .0 in let f = fewer (b .pre .1) p in omega arith, (splits (b .pre .1) p (c .before .before .enum-told2 .given .1), p .lowest))
+
+stage-enum-known-choice : (t : ℕ) → stage-lts.Need-enum-known-choice (stage-claims t) (stage-at t) stage.Post
+stage-enum-known-choice t c = search needs
+
+stage-join-requires : (t : ℕ) → stage-lts.Need-join-requires (stage-claims t) (stage-at t) stage.Post
+stage-join-requires t c κs =
+    let b = c .before .before .before .before .before .before .before .before .before .before .before .before .before in
+    let p = c .before .before .before .before .before .before .before .before .before .plan-stage .ensures in
+    (let e = b .pre .0 in let f = fewer (b .pre .1) p in omega arith, (_, joins (b .pre .1) p (c .before .before .before .choice .given .1)))
+
+-- the network of the conditions left, whichever way it came
+stage-came : (t : ℕ) (c : stage-lts.At-match-came (stage-claims t) (stage-at t) stage.Post)
+    → let d = c .before .before .before .before .before in
+    let a = d .before .before .before .before .args in
+    Written (d .plan-stage .result .places) (treeOf (a .m) (frontStage (a .ks) (a .w .now))) (a .want) (d .plan-stage .last .0) (a .network .now) (a .r) (c .match .of) (c .match .w) (c .match .network)
+stage-came t c =
+    let d = c .before .before .before .before .before in
+    let s = d .before .before .before .before .pre .1 in
+    let o = d .plan-stage .ensures in
+    let eight : length (d .plan-stage .result .places) ≡ 8 = search needs in
+    ⊎-elim (λ p. written-here (p .7) (p .8) (p .9) (leaf-done s o (p .1 .given .1) eight (p .4 .ensures)))
+    (λ q.
+    ⊎-elim (λ p. written-here (p .9) (p .10) (p .11) (split-done s o (p .1 .given .1) (p .4 .ensures)))
+    (λ p. written-here (p .10) (p .11) (p .12) (join-done s o (p .1 .given .1) (p .5 .ensures)))
+    q)
+    (c .match .came)
+
+stage-spread-if-requires : (t : ℕ) → stage-lts.Need-spread-if-requires (stage-claims t) (stage-at t) stage.Post
+stage-spread-if-requires t c κs = spread-room (c .before .before .before .before .before .before .before .before .before .before .pre .1) (c .before .before .before .before .before .before .plan-stage .ensures) (stage-came t (c .before) .len)
 
 stage-returns : (t : ℕ) → stage-lts.Need-returns (stage-claims t) (stage-at t) stage.Post
-stage-returns t c =
-    let d = c .before .before .before .before .before .before .before .before .before .before .before .before .before .before .before in
-    let eight : length (d .drop-all .result .places) ≡ 8 = search needs in
-    leaf-whole (d .before .before .before .before .pre .1) (d .drop-all .ensures .0) (c .before .before .before .before .before .before .before .before .before .before .before .lowest .ensures) (d .drop-all .ensures .1) (c .before .before .before .before .before .before .before .before .before .if1 .taken) eight (c .before .before .before .before .before .before .leaf .ensures) (c .before .before .spread .ensures)
+stage-returns t c = whole (c .before .before .before .before .before .before .before .before .before .before .before .before .before .pre .1) (c .before .before .before .before .before .before .before .before .before .plan-stage .ensures) (stage-came t (c .before .before .before .before)) (c .before .before .spread-if .ensures)
 
 stage-same-length : (t : ℕ) → stage-lts.Need-same-length (stage-claims t) (stage-at t) stage.Post
 stage-same-length t c = stage-returns t c .len
 
 stage-same-length-2 : (t : ℕ) → stage-lts.Need-same-length-2 (stage-claims t) (stage-at t) stage.Post
 stage-same-length-2 t c = stage-returns t c .put .put .len
-
-stage-choose-requires : (t : ℕ) → stage-lts.Need-choose-requires (stage-claims t) (stage-at t) stage.Post
-stage-choose-requires t c κs =
-    let d = c .before .before .before .before .before .before .before in
-    choose-room (d .before .before .before .before .pre .1) (d .drop-all .ensures .0) (d .drop-all .ensures .1)
-
-stage-enum-told : (t : ℕ) → stage-lts.Need-enum-told (stage-claims t) (stage-at t) stage.Post
-stage-enum-told t c = search needs
-
--- two or more conditions are left
-stage-wide : (t : ℕ) (c : stage-lts.Else1 (stage-claims t) (stage-at t) stage.Post) → 2 ≤ width (c .before .before .before .before .before .before .drop-all .result .places)
-stage-wide t c =
-    let d = c .before .before .before .before .before .before in
-    wide-here (d .before .before .before .before .pre .1) (d .drop-all .ensures .0) (c .before .before .lowest .ensures) (d .drop-all .ensures .1) (c .if1 .left)
-
-stage-split-requires : (t : ℕ) → stage-lts.Need-split-requires (stage-claims t) (stage-at t) stage.Post
-stage-split-requires t c κs =
-    let o = c .before .before .before .before .before .before .before .before in
-    let d = o .before .before .before .before .before .before in
-    let b = d .before .before .before .before in
-    (let e = b .pre .0 in let f = fewer (b .pre .1) (d .drop-all .ensures .0) in omega arith, (splits (b .pre .1) (d .drop-all .ensures .0) (d .drop-all .ensures .1) (stage-wide t o) (c .before .before .before .before .before .before .choose .ensures) (c .before .before .enum-told .given .1), o .before .before .lowest .ensures))
-
-stage-enum-known-gate : (t : ℕ) → stage-lts.Need-enum-known-gate (stage-claims t) (stage-at t) stage.Post
-stage-enum-known-gate t c = search needs
-
-stage-join-requires : (t : ℕ) → stage-lts.Need-join-requires (stage-claims t) (stage-at t) stage.Post
-stage-join-requires t c κs =
-    let o = c .before .before .before .before .before .before .before .before .before in
-    let d = o .before .before .before .before .before .before in
-    let b = d .before .before .before .before in
-    (let e = b .pre .0 in let f = fewer (b .pre .1) (d .drop-all .ensures .0) in omega arith, (_, joins (b .pre .1) (d .drop-all .ensures .0) (d .drop-all .ensures .1) (stage-wide t o) (c .before .before .before .before .before .before .before .choose .ensures) (c .before .before .before .gate .given .1)))
-
--- the network of the conditions left, whichever way it came
-stage-came : (t : ℕ) (c : stage-lts.At-match-came (stage-claims t) (stage-at t) stage.Post)
-    → let d = c .before .before .before .before .before .before .before .before .before .before .before in
-    let a = d .before .before .before .before .args in
-    Written (d .drop-all .result .places) (treeOf (a .m) (frontStage (a .ks) (a .w .now))) (c .before .before .before .choose .last .0) (a .network .now) (a .r) (c .match .of) (c .match .w) (c .match .network)
-stage-came t c =
-    let o = c .before .before .before .before .before in
-    let d = o .before .before .before .before .before .before in
-    let s = d .before .before .before .before .pre .1 in
-    let e = d .drop-all .ensures .1 in
-    let h = c .before .before .before .choose .ensures in
-    ⊎-elim
-    (λ p. written-here (p .9) (p .10) (p .11) (split-done s (d .drop-all .ensures .0) e (stage-wide t o) h (p .1 .given .1) (p .4 .ensures)))
-    (λ p. written-here (p .10) (p .11) (p .12) (join-done s (d .drop-all .ensures .0) e (stage-wide t o) h (p .1 .given .1) (p .5 .ensures)))
-    (c .match .came)
-
-stage-spread-requires-2 : (t : ℕ) → stage-lts.Need-spread-requires-2 (stage-claims t) (stage-at t) stage.Post
-stage-spread-requires-2 t c κs =
-    let d = c .before .before .before .before .before .before .before .before .before .before .before .before in
-    spread-room (d .before .before .before .before .pre .1) (d .drop-all .ensures .0) (d .drop-all .ensures .1) (stage-came t (c .before) .len ∙ c .before .before .before .before .choose .ensures .len)
-
-stage-returns-2 : (t : ℕ) → stage-lts.Need-returns-2 (stage-claims t) (stage-at t) stage.Post
-stage-returns-2 t c =
-    let d = c .before .before .before .before .before .before .before .before .before .before .before .before .before .before .before in
-    whole (d .before .before .before .before .pre .1) (d .drop-all .ensures .0) (c .before .before .before .before .before .before .before .choose .ensures .len) (stage-came t (c .before .before .before .before)) (c .before .before .spread2 .ensures)
-
-stage-same-length-3 : (t : ℕ) → stage-lts.Need-same-length-3 (stage-claims t) (stage-at t) stage.Post
-stage-same-length-3 t c = stage-returns-2 t c .len
-
-stage-same-length-4 : (t : ℕ) → stage-lts.Need-same-length-4 (stage-claims t) (stage-at t) stage.Post
-stage-same-length-4 t c = stage-returns-2 t c .put .put .len
 
 pub +join+split+stage-spec : {M : Type 1} → statement M
 +join+split+stage-spec = close μ-join μ-split μ-stage (λ t. join-lts.spec (join-claims t)
@@ -461,34 +406,26 @@ pub +join+split+stage-spec : {M : Type 1} → statement M
     (split-part-stage-start t)
     (split-part-stage-end t)
     (split-stage-requires t)
-    (split-mul-uncofactor t)
-    (split-uncofactor-requires t)
+    (split-keep-value-requires t)
     (split-end-value-requires t)
     (split-add-k t)
     (split-loop-less t)
     (split-loop-again t)
-    (split-mul-copy t)
-    (split-mul-copy-2 t)
-    (split-copy-requires t)
+    (split-collect-requires t)
     (split-same-length t)
     (split-same-length-2 t)
     (split-returns t))
     λ t. stage-lts.spec (stage-claims t)
     (stage-at t)
     stage.Post
-    (stage-drop-all-requires t)
-    (stage-lowest-requires t)
+    (stage-plan-stage-requires t)
+    (stage-enum-told t)
     (stage-leaf-requires t)
-    (stage-spread-requires t)
+    (stage-enum-told-2 t)
+    (stage-split-requires t)
+    (stage-enum-known-choice t)
+    (stage-join-requires t)
+    (stage-spread-if-requires t)
     (stage-same-length t)
     (stage-same-length-2 t)
     (stage-returns t)
-    (stage-choose-requires t)
-    (stage-enum-told t)
-    (stage-split-requires t)
-    (stage-enum-known-gate t)
-    (stage-join-requires t)
-    (stage-spread-requires-2 t)
-    (stage-same-length-3 t)
-    (stage-same-length-4 t)
-    (stage-returns-2 t)
