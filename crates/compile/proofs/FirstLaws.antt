@@ -1,7 +1,7 @@
 -- The first stage of a table, in the work buffer.
 use Prim.Native.Nat.{ℕ, _+_, _*_, _≤_, _<_}
 use mathlib.Core.Path.{_≡_, refl, sym, _∙_, ap, ap₂, subst}
-use mathlib.Core.Bool.{true, _&&_}
+use mathlib.Core.Bool.{true, false, _&&_}
 use mathlib.Core.List.{List, [], _∷_, _++_}
 use native.Mathlib.Nat.{zero-add}
 use native.Mathlib.Omega.{arith}
@@ -99,7 +99,7 @@ module _ (shape : Shape) (lower upper work : List ℕ) (ok : Accepted shape lowe
     lent-length : length (take (16 * cells ks) w) ≡ 16 * cells ks
     lent-length = length-take-le (16 * cells ks) w (let r = rooms .work-room in let e : length w ≡ length work = high .len ∙ low .len in omega arith)
 
-    starts : Starts (shape .m) ks (cells ks) (take (16 * cells ks) w) 0
+    starts : Starts (shape .m) ks (cells ks) false (take (16 * cells ks) w) 0
     starts =
         record {
           shaped = record { some = lent .positive; few = lent .few-cells };
@@ -107,14 +107,15 @@ module _ (shape : Shape) (lower upper work : List ℕ) (ok : Accepted shape lowe
           few = lent .few-values;
           work = let e = lent-length in omega arith;
           proper = subst (Proper (shape .m)) (sym same) (record { some = let g = lent .grades in omega arith; ordered = lent .ordered; top = lent .top });
+          masks = λ e. absurd (subst T (sym e) tt);
           numbers =
               subst (λ (x : Stage). Numbered (treeOf (shape .m) x) 0) (sym same)
               (let h = compiled-size ks (shape .m) l (lent .positive) in let g = lent .few-cells in omega arith);
         }
 
-    module _ {network : List ℕ} {e : Extent} {w′ net′ : List ℕ} (done : Written ks (treeOf (shape .m) (stageAt ks (take (16 * cells ks) w) 0 (cells ks))) (take (16 * cells ks) w) network 0 e w′ net′) where
-      here : Written ks tree (take (16 * cells ks) w) network 0 e w′ net′
-      here = subst (λ (x : Stage). Written ks (treeOf (shape .m) x) (take (16 * cells ks) w) network 0 e w′ net′) same done
+    module _ {network : List ℕ} {e : Extent} {w′ net′ : List ℕ} (done : Written ks (treeOf (shape .m) (stageAt ks (take (16 * cells ks) w) 0 (cells ks))) false (take (16 * cells ks) w) network 0 e w′ net′) where
+      here : Written ks tree false (take (16 * cells ks) w) network 0 e w′ net′
+      here = subst (λ (x : Stage). Written ks (treeOf (shape .m) x) false (take (16 * cells ks) w) network 0 e w′ net′) same done
 
       recorded : Recorded shape lower upper work network e (w′ ++ drop (16 * cells ks) w) net′
       recorded =
@@ -150,15 +151,15 @@ module _ (shape : Shape) (lower upper work : List ℕ) (ok : Accepted shape lowe
     high-by : Laid v (cells (placesOf shape)) (part upper 0 (cells (placesOf shape))) (cells (placesOf shape)) w
     high-by = subst (λ (i : ℕ). Laid v i (part upper 0 i) i w) count high
 
-    pub starts-by : Starts (shape .m) k n (take (16 * n) w) 0
+    pub starts-by : Starts (shape .m) k n false (take (16 * n) w) 0
     starts-by =
-        subst (λ (i : ℕ). Starts (shape .m) k i (take (16 * i) w) 0) (sym count)
-        (subst (λ (q : List ℕ). Starts (shape .m) q (cells (placesOf shape)) (take (16 * cells (placesOf shape)) w) 0) (sym places) (starts shape lower upper work ok low-by high-by))
+        subst (λ (i : ℕ). Starts (shape .m) k i false (take (16 * i) w) 0) (sym count)
+        (subst (λ (q : List ℕ). Starts (shape .m) q (cells (placesOf shape)) false (take (16 * cells (placesOf shape)) w) 0) (sym places) (starts shape lower upper work ok low-by high-by))
 
-    pub recorded-by : {network : List ℕ} {e : Extent} {w′ net′ : List ℕ} → Written k (treeOf (shape .m) (stageAt k (take (16 * n) w) 0 (cells k))) (take (16 * n) w) network 0 e w′ net′
+    pub recorded-by : {network : List ℕ} {e : Extent} {w′ net′ : List ℕ} → Written k (treeOf (shape .m) (stageAt k (take (16 * n) w) 0 (cells k))) false (take (16 * n) w) network 0 e w′ net′
         → Recorded shape lower upper work network e (w′ ++ drop (16 * n) w) net′
     recorded-by {network} {e} {w′} {net′} y =
         subst (λ (i : ℕ). Recorded shape lower upper work network e (w′ ++ drop (16 * i) w) net′) (sym count)
         (recorded shape lower upper work ok low-by high-by
-        (subst (λ (i : ℕ). Written (placesOf shape) (treeOf (shape .m) (stageAt (placesOf shape) (take (16 * i) w) 0 (cells (placesOf shape)))) (take (16 * i) w) network 0 e w′ net′) count
-        (subst (λ (q : List ℕ). Written q (treeOf (shape .m) (stageAt q (take (16 * n) w) 0 (cells q))) (take (16 * n) w) network 0 e w′ net′) places y)))
+        (subst (λ (i : ℕ). Written (placesOf shape) (treeOf (shape .m) (stageAt (placesOf shape) (take (16 * i) w) 0 (cells (placesOf shape)))) false (take (16 * i) w) network 0 e w′ net′) count
+        (subst (λ (q : List ℕ). Written q (treeOf (shape .m) (stageAt q (take (16 * n) w) 0 (cells q))) false (take (16 * n) w) network 0 e w′ net′) places y)))
