@@ -14,6 +14,7 @@ pub mod GateLaws
 pub mod GroupLaws
 pub mod JoinExactLaws
 pub mod JoinLaws
+pub mod LastLaws
 pub mod LineLaws
 pub mod NumberLaws
 pub mod LoopLaws

@@ -63,7 +63,7 @@ module _ (ks : List ℕ) (m : ℕ) (l : Limits) where
 
   module _ (t : List ℕ) where
     -- each condition that is there is in some mask for max: none drops
-    refused-left : Masked Max ks m l t → ((i : ℕ) → T (present ks i) → noneHas (cells ks) t i ≡ false) → left x ≡ x
+    pub refused-left : Masked Max ks m l t → ((i : ℕ) → T (present ks i) → noneHas (cells ks) t i ≡ false) → left x ≡ x
     refused-left b h = drops-none x (λ i p f. subst T (can-drop ks m l t i b p ∙ h i p) f) (numbersFrom 0 (length ks))
 
     -- the mask of cell c has all of them

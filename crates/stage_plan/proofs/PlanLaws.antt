@@ -1,26 +1,28 @@
 -- What a stage does, from its masks or from its limits.
 use Prim.Native.Nat.{ℕ, _+_, _*_, _≤_, _<_}
 use mathlib.Core.Path.{_≡_, refl, sym, _∙_, ap, ap₂, subst}
-use mathlib.Core.Bool.{Bool, true, false, cond, _&&_}
+use mathlib.Core.Bool.{Bool, true, false, cond, not, _&&_}
 use mathlib.Core.List.{List}
 use native.Mathlib.Omega.{arith}
-use lib.Dec.{T}
+use borrow.Author.Tests.{not-true, lt-ltb, le-ltb}
+use lib.Dec.{T, ltb, ltb→lt}
 use lib.ListN.{length}
 use Rattle.rules.specs.declared.Gate.the-variants.{Min, Max}
 use Rattle.rules.specs.Bytes.{at}
-use Rattle.rules.specs.Cell.{cells, card, width, lowest, singleton, without}
+use Rattle.rules.specs.Cell.{cells, width, lowest, has, singleton, without}
 use Rattle.rules.specs.Stage.{Stage, left, split, chosen}
 use Rattle.laws.proofs.TestLaws.{and-l, and-r, passed}
 use Rattle.laws.proofs.GateLaws.{Good}
 use Rattle.laws.proofs.CellLaws.{present-lt}
+use Rattle.laws.proofs.LastLaws.{only-lowest}
 use Rattle.laws.proofs.LowestLaws.{no-width, lowest-present, lowest-width, some-left, narrow-left, wide-left}
 use Rattle.laws.proofs.StageLaws.{Ready, Shrunk, left-shrunk, left-ready}
 use Rattle.places.specs.declared.sets.Condition.{Condition}
 use Rattle.places.specs.Conditions.{IsLowest}
 use Rattle.tables.specs.Part.{part, Shaped}
 use Rattle.tables.proofs.PartLaws.{part-at, part-same}
-use Rattle.masks.specs.Masks.{Known, maskPart, someFull, fullFrom, every, Union}
-use Rattle.masks.proofs.SplitLaws.{full-split, seen-left}
+use Rattle.masks.specs.Masks.{Known, noneHas, someFull, fullFrom, every, Union}
+use Rattle.masks.proofs.SplitLaws.{refused-left, full-split, seen-left}
 use Rattle.mask_making.specs.Making.{Space, Made}
 use Rattle.mask_making.proofs.MadeLaws.{made-known}
 use Rattle.stage_drops.specs.Working.{Room, frontStage, Turned, Proper}
@@ -29,7 +31,7 @@ use Rattle.stage_choice.specs.declared.Choice.{Choice}
 use Rattle.stage_choice.specs.declared.Choice.the-variants.{Leaf, Split, Join}
 use Rattle.stage_choice.specs.Choosing.{Chosen}
 use Rattle.stage_plan.specs.declared.Plan.{Plan}
-use Rattle.stage_plan.specs.Planning.{Ordered, Learnt, bothFull, Leaves, Does, Planned, Ends}
+use Rattle.stage_plan.specs.Planning.{Ordered, Learnt, bothFull, keepsLast, Leaves, Does, Planned, Ends}
 
 proper-ready : {m : ℕ} {x : Stage} → Shaped (x .ks) → Proper m x → Ready m x
 proper-ready s h = record { grades = h .some; pos = s .some; good = record { room = h .ordered; top = h .top } }
@@ -156,6 +158,48 @@ module _ {m : ℕ} {ks w : List ℕ} {n : ℕ} {low : Condition} (room : Room w 
   seen-none {s} u e =
       seen-left ks m (frontStage ks w .limits) eight (part w (2 * cells ks) (cells ks)) s (masks .masks Max)
       (subst (λ (k : ℕ). Union k (part w (2 * k) k) every s) (room .own) u) (ap (λ (k : ℕ). fullFrom k s) (sym (is .number)) ∙ e)
+
+-- whether the masks tell that the last condition stays
+module _ (w : List ℕ) (n i : ℕ) {known : Bool} where
+  pub keeps-unknown : known ≡ false → false ≡ keepsLast w n i known
+  keeps-unknown e = ap (λ (k : Bool). k && (ltb i 8 && not (noneHas n (part w (2 * n) n) i))) (sym e)
+
+  pub keeps-none : known ≡ true → 8 ≤ i → false ≡ keepsLast w n i known
+  keeps-none e l = sym (ap₂ (λ (k b : Bool). k && (b && not (noneHas n (part w (2 * n) n) i))) e (le-ltb i 8 l))
+
+  pub keeps-seen : {s : ℕ} {r : Bool} → known ≡ true → i < 8 → Union n (part w (2 * n) n) every s → r ≡ has s i → r ≡ keepsLast w n i known
+  keeps-seen e l u h = h ∙ u .has-is i ∙ sym (ap₂ (λ (k b : Bool). k && (b && not (noneHas n (part w (2 * n) n) i))) e (lt-ltb i 8 l))
+
+-- of a stage with one condition, a mask has it
+module _ {m : ℕ} {ks w : List ℕ} {n : ℕ} {low : Condition} {known : Bool} (room : Room w ks n) (is : IsLowest ks low) (all : low .values ≡ n) (eight : length ks ≡ 8) where
+  pub kept-plan : keepsLast w n (low .number) known ≡ true → (known ≡ true → Known m ks w) → Planned m ks w (record { places = ks; cells = n; low = low; choice = Leaf }) w
+  kept-plan e k = planned room is none (does-leaf room is all)
+    where
+      kept : T (keepsLast w n (low .number) known)
+      kept = subst T (sym e) tt
+
+      there : T (ltb (low .number) 8 && not (noneHas n (part w (2 * n) n) (low .number)))
+      there = and-r known (ltb (low .number) 8 && not (noneHas n (part w (2 * n) n) (low .number))) kept
+
+      one : width ks ≡ 1
+      one =
+          let l = ltb→lt (low .number) 8 (and-l (ltb (low .number) 8) (not (noneHas n (part w (2 * n) n) (low .number))) there) in
+          let f = is .number in
+          let a = narrow-here room is all in
+          let b = some-left ks (room .shaped .some) (omega arith) in
+          omega arith
+
+      refused : noneHas (cells ks) (part w (2 * cells ks) (cells ks)) (lowest ks) ≡ false
+      refused =
+          ap₂ (λ (c i : ℕ). noneHas c (part w (2 * c) c) i) (sym (room .own)) (sym (is .number))
+          ∙ not-true (noneHas n (part w (2 * n) n) (low .number))
+          (passed (not (noneHas n (part w (2 * n) n) (low .number))) (and-r (ltb (low .number) 8) (not (noneHas n (part w (2 * n) n) (low .number))) there))
+
+      none : left (frontStage ks w) ≡ frontStage ks w
+      none =
+          refused-left ks m (frontStage ks w .limits) (part w (2 * cells ks) (cells ks))
+          (k (passed known (and-l known (ltb (low .number) 8 && not (noneHas n (part w (2 * n) n) (low .number))) kept)) .masks Max)
+          (λ i p. ap (noneHas (cells ks) (part w (2 * cells ks) (cells ks))) (only-lowest ks (room .shaped .some) one i p) ∙ refused)
 
 -- none left or one: the limits are at the front
 ends-with : {ks w : List ℕ} {l w′ : List ℕ} {n : ℕ} {low : Condition} → Turned left ks w l w′ → n ≡ cells l → IsLowest l low → width l < 2

@@ -1,8 +1,9 @@
 -- 01, Stages, steps 1 to 4, in a stage's work buffer.
 use Prim.Native.Nat.{ℕ, _+_, _*_, _≤_, _<_}
 use mathlib.Core.Path.{_≡_}
-use mathlib.Core.Bool.{Bool, true, _&&_}
+use mathlib.Core.Bool.{Bool, true, not, _&&_}
 use mathlib.Core.List.{List}
+use lib.Dec.{ltb}
 use lib.ListN.{length}
 use Rattle.rules.specs.declared.Gate.{Gate}
 use Rattle.rules.specs.Bytes.{at}
@@ -10,7 +11,7 @@ use Rattle.rules.specs.Cell.{cells, width}
 use Rattle.rules.specs.Stage.{Stage, left, split, joining, chosen}
 use Rattle.places.specs.Conditions.{IsLowest}
 use Rattle.tables.specs.Part.{part}
-use Rattle.masks.specs.Masks.{Known, someFull}
+use Rattle.masks.specs.Masks.{Known, noneHas, someFull}
 use Rattle.stage_drops.specs.Working.{frontStage, Proper, ForBoth}
 use Rattle.stage_choice.specs.declared.Choice.{Choice}
 use Rattle.stage_choice.specs.declared.Choice.the-variants.{Leaf, Split, Join}
@@ -29,6 +30,10 @@ pub record Learnt (ks : List ℕ) (known : Bool) (w w′ : List ℕ) : Type 0 wh
 -- some mask for max and some for min have every condition from k on
 abbrev pub bothFull : List ℕ → ℕ → ℕ → Bool
 bothFull w n k = someFull n (part w (2 * n) n) k && someFull n (part w (3 * n) n) k
+
+-- the masks are known, and one for max has the condition of that number
+abbrev pub keepsLast : List ℕ → ℕ → ℕ → Bool → Bool
+keepsLast w n i known = known && (ltb i 8 && not (noneHas n (part w (2 * n) n) i))
 
 -- what a stage y with its conditions left finds in its buffer. With none left or one: its limits at the front
 pub record Leaves (y : Stage) (w : List ℕ) : Type 0 where

@@ -14,7 +14,7 @@ ghost use Rattle.rules.specs.Cell.{width};
 ghost use Rattle.places.specs.Conditions.{IsLowest};
 ghost use Rattle.masks.specs.Masks.{Known};
 ghost use Rattle.stage_drops.specs.Working.{Room, frontStage, Proper};
-ghost use Rattle.stage_plan.specs.Planning.{Ordered, Learnt, bothFull, Does, Ends, Planned};
+ghost use Rattle.stage_plan.specs.Planning.{Ordered, Learnt, bothFull, keepsLast, Does, Ends, Planned};
 
 // What is left of a stage: its places, how many cells these have, the lowest condition, and what the stage does.
 pub struct Plan {
@@ -124,6 +124,20 @@ fn plan_known(w: &mut [u8], ks: [u8; PLACES], m: u8, n: usize, low: Condition) -
     reduce(w, ks, m, n)
 }
 
+// Whether the masks of a stage that has one condition or none are known, and tell that it has one and keeps it.
+fn keeps_last(w: &[u8], n: usize, low: Condition, known: bool) -> bool
+    requires { ⌜ 4 * n ≤ length (now w) ⌝ }
+    ensures { λ r. ⌜ r ≡ keepsLast (now (w .entry)) n (low .number) known ⌝ }
+{
+    if !known {
+        return false;
+    }
+    if PLACES <= low.number {
+        return false;
+    }
+    places::has_member(tests::seen(w, 2 * n, n), low.number)
+}
+
 // The plan of the stage over ks, of n cells, whose limits are at the front of the work buffer and, where they are
 // known, its masks behind them. A split finds both there; a join finds what its blocks are made from.
 pub fn plan_stage(w: &mut [u8], ks: [u8; PLACES], m: u8, n: usize, known: bool) -> Plan
@@ -132,6 +146,14 @@ pub fn plan_stage(w: &mut [u8], ks: [u8; PLACES], m: u8, n: usize, known: bool) 
 {
     let low = sets::lowest(ks);
     if low.values == n {
+        if keeps_last(w, n, low, known) {
+            return Plan {
+                places: ks,
+                cells: n,
+                low,
+                choice: Choice::Leaf,
+            };
+        }
         return end(w, ks, n, low);
     }
     learn(w, ks, n, known);

@@ -1,7 +1,9 @@
 -- `stage_plan::plan_stage` meets its contract.
+use mathlib.Core.Path.{_≡_, sym, _∙_, subst}
+use lib.ListN.{length}
+use native.Mathlib.Omega.{arith}
 use borrow.Author.Needs.{needs}
-use Rattle.stage_plan.proofs.PlanLaws.{ordered, room-same, wide-here, planned-same}
-use mathlib.Core.Path.{sym, subst}
+use Rattle.stage_plan.proofs.PlanLaws.{ordered, room-same, wide-here, kept-plan, planned-same}
 use Rattle.stage_drops.specs.Working.{Proper}
 use Rattle.stage_plan.proofs.plan_stage.Statement.{statement}
 use Rattle.stage_plan.proofs.plan_stage.Tie as tie
@@ -9,14 +11,26 @@ use Rattle.stage_plan.proofs.plan_stage.Tie as tie
 lowest-requires : tie.Need-lowest-requires
 lowest-requires c κs = tt
 
-end-requires : tie.Need-end-requires
-end-requires c κs = let p = c .before .before .before .before .before .pre in (p .0, c .before .before .before .lowest .ensures, c .before .if1 .taken)
+keeps-last-requires : tie.Need-keeps-last-requires
+keeps-last-requires c κs = let r = c .before .before .before .before .before .pre .0 .room in omega arith
 
 same-length : tie.Need-same-length
 same-length c = search needs
 
 returns : tie.Need-returns
-returns c = c .before .before .end .ensures .planned (c .before .before .before .before .before .before .before .before .args .m)
+returns c =
+    let b = c .before .before .before .before .before .before .before in
+    let e : length (b .args .ks) ≡ 8 = search needs in
+    kept-plan (b .pre .0) (c .before .before .before .before .before .lowest .ensures) (c .before .before .before .if1 .taken) e (sym (c .before .keeps-last .ensures) ∙ c .if2 .taken) (b .pre .2)
+
+end-requires : tie.Need-end-requires
+end-requires c κs = let p = c .before .before .before .before .before .before .before .before .pre in (p .0, c .before .before .before .before .before .before .lowest .ensures, c .before .before .before .before .if1 .taken)
+
+same-length-2 : tie.Need-same-length-2
+same-length-2 c = search needs
+
+returns-2 : tie.Need-returns-2
+returns-2 c = c .before .before .end .ensures .planned (c .before .before .before .before .before .before .before .before .before .before .before .args .m)
 
 learn-requires : tie.Need-learn-requires
 learn-requires c κs = let p = c .before .before .before .before .before .pre in (p .0, ordered (p .0) (p .1))
@@ -29,11 +43,11 @@ plan-known-requires c κs =
     let is = c .before .before .before .before .before .before .before .lowest .ensures in
     (room-same (p .0) (k .len), subst (Proper (b .args .m)) (sym (k .stage)) (p .1), k .masks (b .args .m) (p .1) (p .2), is, wide-here (p .0) is (c .before .before .before .before .before .if1 .left))
 
-same-length-2 : tie.Need-same-length-2
-same-length-2 c = search needs
+same-length-3 : tie.Need-same-length-3
+same-length-3 c = search needs
 
-returns-2 : tie.Need-returns-2
-returns-2 c = let k = c .before .before .before .before .before .before .learn .ensures in planned-same (k .stage) (k .len) (c .before .before .plan-known .ensures)
+returns-3 : tie.Need-returns-3
+returns-3 c = let k = c .before .before .before .before .before .before .learn .ensures in planned-same (k .stage) (k .len) (c .before .before .plan-known .ensures)
 
 pub plan-stage-spec : {M : Type 1} → statement M
-plan-stage-spec = tie.close (tie.spec lowest-requires end-requires same-length returns learn-requires plan-known-requires same-length-2 returns-2)
+plan-stage-spec = tie.close (tie.spec lowest-requires keeps-last-requires same-length returns end-requires same-length-2 returns-2 learn-requires plan-known-requires same-length-3 returns-3)
