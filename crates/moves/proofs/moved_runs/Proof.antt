@@ -103,11 +103,13 @@ loop-again : tie.Need-loop-again Inv-loop μ-loop
 loop-again c =
     let k = c .before .before in
     let t = k .before .before .before .before in
-    let p = t .before .before .before .pre in
-    (search needs, c .next .ensures,
+    let p = t .before .before .before .pre in (
+      search needs,
+      c .next .ensures,
       ⊎-elim (λ x. rw (x .5) (upper-more (p .0) (p .1) (t .loop-test .taken) (t .before .loop .inv .1) (x .0 .taken) (half k) (x .2 .ensures)))
-      (λ x. rw (x .1) (laying-one (x .0 .left) (half k)))
-      (c .before .if1 .came))
+          (λ x. rw (x .1) (laying-one (x .0 .left) (half k)))
+          (c .before .if1 .came),
+    )
 
 same-length : tie.Need-same-length Inv-loop μ-loop
 same-length c = search needs
