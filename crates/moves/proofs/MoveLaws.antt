@@ -1,26 +1,27 @@
 -- Tables moved to other places, run by run.
 use Prim.Native.Nat.{ℕ, _+_, _-_, _*_, _/_, _≤_, _<_}
 use mathlib.Core.Path.{_≡_, refl, sym, _∙_, ap, subst}
-use mathlib.Core.Bool.{Bool, true, false}
-use mathlib.Core.List.{List}
+use mathlib.Core.Bool.{Bool, true, false, false≢true}
+use mathlib.Core.List.{List, _++_}
 use mathlib.Core.Logic.{inl, inr, ⊎-elim}
 use native.Mathlib.Omega.{arith}
 use native.Mathlib.Nat.{mul-zero, mul-suc, mul-div-cancel-left}
 use native.Mathlib.Numerals.{add-one}
-use lib.ListN.{length, getD, drop}
+use lib.ListN.{length, getD, drop, List·getD-append}
+use lib.Seq.{getD-append-add}
 use Rattle.rules.specs.Bytes.{pick, at, tabulate}
-use Rattle.rules.specs.Cell.{cells, value, remap}
+use Rattle.rules.specs.Cell.{cells, value, remap, moved}
 use Rattle.laws.proofs.CellLaws.{cell-lt}
 use Rattle.laws.proofs.LineLaws.{step-pos}
 use Rattle.laws.proofs.LoopLaws.{step-start, step-le, step-more}
 use Rattle.laws.proofs.MoveLaws.{remap-first, reads-none, same-more, other-more}
 use Rattle.laws.proofs.NumberLaws.{card-positive}
-use Rattle.laws.proofs.TableLaws.{at-tabulate}
+use Rattle.laws.proofs.TableLaws.{at-tabulate, length-tabulateFrom}
 use Rattle.laws.proofs.TestLaws.{by-order}
 use Rattle.moves.specs.declared.Run.{Run}
 use Rattle.tables.specs.Part.{part, Laid, Apart, Shaped}
-use Rattle.moves.specs.Move.{remapFrom, Runs}
-use Rattle.tables.proofs.PartLaws.{Filled, read-part}
+use Rattle.moves.specs.Move.{remapFrom, Runs, tables, room, Moving}
+use Rattle.tables.proofs.PartLaws.{Filled, read-part, filled-laid}
 use Rattle.tables.proofs.LineLaws.{line-end}
 use Rattle.tables.proofs.OverLaws.{step-rest}
 
@@ -68,65 +69,159 @@ runs-other {a} {b} {i} {s} {t} q p h ha hb n x =
 abbrev pub Starts : List ℕ → List ℕ → Run → ℕ → ℕ → Type 0
 Starts a b u d r = d ≡ u .first * remapFrom (u .places) b a r
 
-module _ {a b : List ℕ} {along : Bool} {u : Run} (pa : Shaped a) (pb : Shaped b) (x : Runs a b along u) where
+-- one table fits in either case
+room-one : (both : Bool) (n : ℕ) → n ≤ room both n
+room-one true n = omega arith
+room-one false n = omega arith
+
+-- w′ is w but for the n bytes at `to`
+abbrev Kept : List ℕ → ℕ → ℕ → List ℕ → Type 0
+Kept w to n w′ = Filled w to (λ k. at w′ (to + k)) n w′
+
+-- in w′ the first k cells stand at z of the table that was at `from` in w, moved
+abbrev Stands : (w a b : List ℕ) (from z k : ℕ) (w′ : List ℕ) → Type 0
+Stands w a b from z k w′ = (c : ℕ) → c < k → at w′ (z + c) ≡ at (part w from (cells a)) (remap b a c)
+
+-- a loop's state: k cells of the first table stand there, and l of the second, if there is one
+pub record Laying (w a b : List ℕ) (n low high to : ℕ) (both : Bool) (k l : ℕ) (w′ : List ℕ) : Type 0 where
+  pub kept : Kept w to (room both (cells b)) w′
+  pub lower : Stands w a b low to k w′
+  pub upper : both ≡ true → Stands w a b high (to + n) l w′
+
+pub laying-none : (w a b : List ℕ) (n low high to : ℕ) (both : Bool) → Laying w a b n low high to both 0 0 w
+laying-none w a b n low high to both =
+    record {
+      kept = record { len = refl; here = λ k h. refl; before = λ j h. refl; after = λ j h. refl };
+      lower = λ c h. absurd (omega arith);
+      upper = λ e c h. absurd (omega arith);
+    }
+
+-- where there is no second
+pub laying-one : {w a b : List ℕ} {n low high to : ℕ} {both : Bool} {k l m : ℕ} {w′ : List ℕ} → both ≡ false → Laying w a b n low high to both k l w′
+    → Laying w a b n low high to both k m w′
+laying-one e y = record { kept = y .kept; lower = y .lower; upper = λ t. absurd (false≢true (sym e ∙ t)) }
+
+module _ {w a b : List ℕ} {n low high to : ℕ} {both : Bool} {along : Bool} {u : Run} (v : Moving w a b n low high to both) (x : Runs a b along u) where
   some : 0 < u .cells
-  some = runs-some x pb
+  some = runs-some x (v .shaped)
 
   pub runs-begin : Starts a b u 0 0
   runs-begin = sym (ap (λ (y : ℕ). u .first * y) (remap-first (u .places) b a) ∙ mul-zero (u .first))
 
   -- the runs are all cells of b
-  pub runs-all : (n : ℕ) → n ≡ cells b → u .cells * (n / u .cells) ≡ cells b
-  runs-all n e =
+  pub runs-all : u .cells * (n / u .cells) ≡ cells b
+  runs-all =
       let q = cells (drop (u .places) b) in
-      let all : n ≡ u .cells * q = e ∙ sym (step-rest b (u .places)) ∙ ap (λ (y : ℕ). y * q) (sym (x .cells-is)) in
-      ap (λ (y : ℕ). u .cells * (y / u .cells)) all ∙ ap (λ (y : ℕ). u .cells * y) (mul-div-cancel-left q some) ∙ sym all ∙ e
+      let all : n ≡ u .cells * q = v .count ∙ sym (step-rest b (u .places)) ∙ ap (λ (y : ℕ). y * q) (sym (x .cells-is)) in
+      ap (λ (y : ℕ). u .cells * (y / u .cells)) all ∙ ap (λ (y : ℕ). u .cells * y) (mul-div-cancel-left q some) ∙ sym all ∙ v .count
 
-  module _ {n r d : ℕ} (e : n ≡ cells b) (h : r < n / u .cells) (s : Starts a b u d r) where
-    pub runs-in : u .cells * r + u .cells ≤ cells b
-    runs-in = omega (arith, runs-all n e, line-end (u .cells) (n / u .cells) r h)
+  module _ {r d : ℕ} (h : r < n / u .cells) (s : Starts a b u d r) where
+    size : u .cells * (r + 1) ≡ u .cells * r + u .cells
+    size = rw (add-one r) (mul-suc (u .cells) r)
+
+    runs-in : u .cells * r + u .cells ≤ cells b
+    runs-in = omega (arith, runs-all, line-end (u .cells) (n / u .cells) r h)
 
     reads : (o : ℕ) → o < u .cells → remap b a (o + u .cells * r) ≡ pick along o 0 + d
     reads o ho = x .reads r o ho ∙ ap (λ (y : ℕ). pick along o 0 + y) (sym s)
 
-    -- what is read for it are cells of a
-    pub runs-from : d + pick along (u .cells) 1 ≤ cells a
+    -- what is read for run r are cells of a
+    runs-from : d + pick along (u .cells) 1 ≤ cells a
     runs-from = go along reads
       where
         go : (t : Bool) → ((o : ℕ) → o < u .cells → remap b a (o + u .cells * r) ≡ pick t o 0 + d) → d + pick t (u .cells) 1 ≤ cells a
-        go true f = let p = some in omega (arith, f (u .cells - 1) (omega arith), cell-lt a (value b (u .cells - 1 + u .cells * r)) (pa .some))
-        go false f = omega (arith, f 0 some, cell-lt a (value b (0 + u .cells * r)) (pa .some))
+        go true f =
+            let p = some in
+            omega (arith, f (u .cells - 1) (omega arith), cell-lt a (value b (u .cells - 1 + u .cells * r)) (v .first .some))
+        go false f = omega (arith, f 0 some, cell-lt a (value b (0 + u .cells * r)) (v .first .some))
 
-    module _ {w : List ℕ} {from to : ℕ} (p : Apart w from (cells a) to (cells b)) where
-      pub runs-apart : {w′ : List ℕ} → length w′ ≡ length w → Apart w′ (from + d) (pick along (u .cells) 1) (to + u .cells * r) (u .cells)
-      runs-apart {w′} l =
+    -- run r of the table at z from the one at `from`
+    module _ {from z m : ℕ} (p : Apart w from (cells a) to m) (lo : to ≤ z) (hi : z + cells b ≤ to + m) {w′ : List ℕ} (y : Kept w to m w′) where
+      run-apart : Apart w′ (from + d) (pick along (u .cells) 1) (z + u .cells * r) (u .cells)
+      run-apart =
+          let l = y .len in
           record {
             src = let q = p .src in omega (arith, runs-from);
             dst = let q = p .dst in omega (arith, runs-in);
             apart = ⊎-elim (λ q. inl (omega (arith, runs-from))) (λ q. inr (omega (arith, runs-in))) (p .apart);
           }
 
-      -- one run more
-      pub runs-more : {w′ w″ : List ℕ} → Filled w to (λ c. at (part w from (cells a)) (remap b a c)) (u .cells * r) w′
-          → Laid w′ (to + u .cells * r) (tabulate (u .cells) (λ o. at w′ (from + d + pick along o 0))) (u .cells) w″
-          → Filled w to (λ c. at (part w from (cells a)) (remap b a c)) (u .cells * (r + 1)) w″
-      runs-more {w′} {w″} l m =
-          record {
-            len = m .len ∙ l .len;
-            here = λ k lt. by-order (u .cells * r) k (λ ge. new k ge lt) (λ lo. m .before (to + k) (omega arith) ∙ l .here k lo);
-            before = λ j lt. m .before j (omega arith) ∙ l .before j lt;
-            after = λ j lt. m .after j (omega (arith, size)) ∙ l .after j (omega (arith, size));
-          }
-        where
-          size : u .cells * (r + 1) ≡ u .cells * r + u .cells
-          size = rw (add-one r) (mul-suc (u .cells) r)
+      module _ {w″ : List ℕ} (l : Laid w′ (z + u .cells * r) (tabulate (u .cells) (λ o. at w′ (from + d + pick along o 0))) (u .cells) w″) where
+        run-kept : Kept w to m w″
+        run-kept =
+            record {
+              len = l .len ∙ y .len;
+              here = λ k lt. refl;
+              before = λ j lt. l .before j (omega arith) ∙ y .before j lt;
+              after = λ j lt. l .after j (omega (arith, runs-in)) ∙ y .after j lt;
+            }
 
-          new : (k : ℕ) → u .cells * r ≤ k → k < u .cells * (r + 1) → at w″ (to + k) ≡ at (part w from (cells a)) (remap b a k)
-          new k ge lt =
-              let o = k - u .cells * r in
-              let ho : o < u .cells = omega (arith, size) in
-              let i : to + k ≡ to + u .cells * r + o = omega arith in
-              let f : k ≡ o + u .cells * r = omega arith in
-              let place : from + d + pick along o 0 ≡ from + remap b a k = omega (arith, reads o ho, ap (remap b a) f) in
-              ap (at w″) i ∙ m .here o ho ∙ at-tabulate (u .cells) _ o ho ∙ ap (at w′) place
-              ∙ read-part p l (omega (arith, runs-in)) (remap b a k) (cell-lt a (value b k) (pa .some))
+        run-stands : Stands w a b from z (u .cells * r) w′ → Stands w a b from z (u .cells * (r + 1)) w″
+        run-stands t k lt = by-order (u .cells * r) k new (λ le. l .before (z + k) (omega arith) ∙ t k le)
+          where
+            new : u .cells * r ≤ k → at w″ (z + k) ≡ at (part w from (cells a)) (remap b a k)
+            new ge =
+                let o = k - u .cells * r in
+                let ho : o < u .cells = omega (arith, size) in
+                let i : z + k ≡ z + u .cells * r + o = omega arith in
+                let f : k ≡ o + u .cells * r = omega arith in
+                let place : from + d + pick along o 0 ≡ from + remap b a k = omega (arith, reads o ho, ap (remap b a) f) in
+                ap (at w″) i ∙ l .here o ho ∙ at-tabulate (u .cells) _ o ho ∙ ap (at w′) place
+                ∙ read-part p y (omega arith) (remap b a k) (cell-lt a (value b k) (v .first .some))
+
+    -- run r of the first table, and then of the second
+    module _ {w′ : List ℕ} (y : Laying w a b n low high to both (u .cells * r) (u .cells * r) w′) where
+      lower-in : to + cells b ≤ to + room both (cells b)
+      lower-in = omega (arith, room-one both (cells b))
+
+      pub lower-apart : Apart w′ (low + d) (pick along (u .cells) 1) (to + u .cells * r) (u .cells)
+      lower-apart = run-apart (v .lower) (omega arith) lower-in (y .kept)
+
+      module _ {w″ : List ℕ} (l : Laid w′ (to + u .cells * r) (tabulate (u .cells) (λ o. at w′ (low + d + pick along o 0))) (u .cells) w″) where
+        pub lower-more : Laying w a b n low high to both (u .cells * (r + 1)) (u .cells * r) w″
+        lower-more =
+            record {
+              kept = run-kept (v .lower) (omega arith) lower-in (y .kept) l;
+              lower = run-stands (v .lower) (omega arith) lower-in (y .kept) l (y .lower);
+              upper = λ e c lt. l .after (to + n + c) (omega (arith, runs-in, v .count)) ∙ y .upper e c lt;
+            }
+
+    module _ (e : both ≡ true) {w′ : List ℕ} (y : Laying w a b n low high to both (u .cells * (r + 1)) (u .cells * r) w′) where
+      upper-in : to + n + cells b ≤ to + room both (cells b)
+      upper-in = omega (arith, v .count, ap (λ (t : Bool). room t (cells b)) e)
+
+      pub upper-apart : Apart w′ (high + d) (pick along (u .cells) 1) (to + n + u .cells * r) (u .cells)
+      upper-apart = run-apart (v .upper) (omega arith) upper-in (y .kept)
+
+      pub upper-more : {w″ : List ℕ} → Laid w′ (to + n + u .cells * r) (tabulate (u .cells) (λ o. at w′ (high + d + pick along o 0))) (u .cells) w″
+          → Laying w a b n low high to both (u .cells * (r + 1)) (u .cells * (r + 1)) w″
+      upper-more l =
+          record {
+            kept = run-kept (v .upper) (omega arith) upper-in (y .kept) l;
+            lower = λ c lt. l .before (to + c) (omega (arith, size, runs-in, v .count)) ∙ y .lower c lt;
+            upper = λ t. run-stands (v .upper) (omega arith) upper-in (y .kept) l (y .upper e);
+          }
+
+-- all cells
+pub laying-all : {w a b : List ℕ} {n low high to k : ℕ} {w′ : List ℕ} (both : Bool) → n ≡ cells b → k ≡ cells b → Laying w a b n low high to both k k w′
+    → Laid w to (tables both (moved a b (part w low (cells a))) (moved a b (part w high (cells a)))) (room both (cells b)) w′
+laying-all {b = b} false e f y = filled-laid _ (cells b) refl (y .kept) (λ k lt. y .lower k (omega arith) ∙ sym (at-tabulate (cells b) _ k lt))
+laying-all {w} {a} {b} {n} {low} {high} {to} {k} {w′} true e f y =
+    filled-laid _ (2 * cells b) refl (y .kept)
+    (λ c lt.
+    by-order (cells b) c
+    (λ le.
+    let i : to + c ≡ to + n + (c - cells b) = omega arith in
+    let j : length first + (c - cells b) ≡ c = omega (arith, long) in
+    ap (at w′) i ∙ y .upper refl (c - cells b) (omega arith) ∙ sym (at-tabulate (cells b) _ (c - cells b) (omega arith))
+    ∙ sym (getD-append-add first second (c - cells b) 0) ∙ ap (at (first ++ second)) j)
+    (λ less. y .lower c (omega arith) ∙ sym (at-tabulate (cells b) _ c less) ∙ sym (List·getD-append first second 0 c (omega (arith, long)))))
+  where
+    first : List ℕ
+    first = moved a b (part w low (cells a))
+
+    second : List ℕ
+    second = moved a b (part w high (cells a))
+
+    long : length first ≡ cells b
+    long = length-tabulateFrom _ 0 (cells b)

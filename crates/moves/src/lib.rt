@@ -4,11 +4,12 @@ use tables::fill;
 ghost use Prim.Native.Nat.{_+_, _*_, _≤_, _<_};
 ghost use mathlib.Core.Path.{_≡_};
 ghost use mathlib.Core.Bool.{true, false};
+ghost use mathlib.Core.List.{_++_};
 ghost use Rattle.rules.specs.Bytes.{pick, at, tabulate};
 ghost use Rattle.rules.specs.Cell.{cells, step, moved};
 ghost use Rattle.tables.specs.Part.{part, Laid, Apart, Shaped};
 ghost use Rattle.tables.specs.Line.{Spread};
-ghost use Rattle.moves.specs.Move.{remapFrom, Runs};
+ghost use Rattle.moves.specs.Move.{remapFrom, Runs, room, tables, Moving};
 
 // A table over the places b is made from one over a in runs. A run is the cells that differ in the lowest places
 // only: how many places those are, the cells that they have in b, and those that they have in a.
@@ -108,26 +109,54 @@ fn lay_run(w: &mut [u8], along: bool, from: usize, to: usize, len: usize)
     }
 }
 
-// Run after run, with no division for a cell.
+// Run after run, with no division for a cell. Where a run begins is found once, for one table or for two.
 fn moved_runs(
     w: &mut [u8],
     a: [u8; PLACES],
     b: [u8; PLACES],
     n: usize,
-    from: usize,
+    low: usize,
+    high: usize,
     to: usize,
+    both: bool,
     run: Run,
     along: bool,
 )
-    requires { ⌜ Shaped a × Shaped b × (n ≡ cells b) × Runs a b along run × Apart (now w) from (cells a) to (cells b) ⌝ }
-    ensures { λ _. ⌜ Laid (now (w .entry)) to (moved a b (part (now (w .entry)) from (cells a))) (cells b) (now (w .exit)) ⌝ }
+    requires { ⌜ Moving (now w) a b n low high to both × Runs a b along run ⌝ }
+    ensures { λ _. ⌜ Laid (now (w .entry)) to (tables both (moved a b (part (now (w .entry)) low (cells a))) (moved a b (part (now (w .entry)) high (cells a)))) (room both (cells b)) (now (w .exit)) ⌝ }
 {
     let len = run.cells;
     let count = n / len;
     let mut d: usize = 0;
     for r in 0..count {
-        lay_run(w, along, from + d, to + len * r, len);
+        lay_run(w, along, low + d, to + len * r, len);
+        if both {
+            lay_run(w, along, high + d, to + n + len * r, len);
+        }
         d = next(a, b, run.places, r, d, run.first);
+    }
+}
+
+// In the runs that make the fewer turns: those of equal places, if there are any.
+fn moved_tables(
+    w: &mut [u8],
+    a: [u8; PLACES],
+    b: [u8; PLACES],
+    n: usize,
+    low: usize,
+    high: usize,
+    to: usize,
+    both: bool,
+)
+    requires { ⌜ Moving (now w) a b n low high to both ⌝ }
+    ensures { λ _. ⌜ Laid (now (w .entry)) to (tables both (moved a b (part (now (w .entry)) low (cells a))) (moved a b (part (now (w .entry)) high (cells a)))) (room both (cells b)) (now (w .exit)) ⌝ }
+{
+    let same = same_run(a, b);
+    if 1 < same.cells {
+        moved_runs(w, a, b, n, low, high, to, both, same, true);
+    } else {
+        let other = other_run(a, b);
+        moved_runs(w, a, b, n, low, high, to, both, other, false);
     }
 }
 
@@ -136,13 +165,23 @@ pub fn moved(w: &mut [u8], a: [u8; PLACES], b: [u8; PLACES], n: usize, from: usi
     requires { ⌜ Shaped a × Shaped b × (n ≡ cells b) × Apart (now w) from (cells a) to (cells b) ⌝ }
     ensures { λ _. ⌜ Laid (now (w .entry)) to (moved a b (part (now (w .entry)) from (cells a))) (cells b) (now (w .exit)) ⌝ }
 {
-    let same = same_run(a, b);
-    if 1 < same.cells {
-        moved_runs(w, a, b, n, from, to, same, true);
-    } else {
-        let other = other_run(a, b);
-        moved_runs(w, a, b, n, from, to, other, false);
-    }
+    moved_tables(w, a, b, n, from, from, to, false);
+}
+
+// Two tables over the places b, one behind the other, from two over a.
+pub fn moved_both(
+    w: &mut [u8],
+    a: [u8; PLACES],
+    b: [u8; PLACES],
+    n: usize,
+    low: usize,
+    high: usize,
+    to: usize,
+)
+    requires { ⌜ Shaped a × Shaped b × (n ≡ cells b) × Apart (now w) low (cells a) to (2 * cells b) × Apart (now w) high (cells a) to (2 * cells b) ⌝ }
+    ensures { λ _. ⌜ Laid (now (w .entry)) to (moved a b (part (now (w .entry)) low (cells a)) ++ moved a b (part (now (w .entry)) high (cells a))) (2 * cells b) (now (w .exit)) ⌝ }
+{
+    moved_tables(w, a, b, n, low, high, to, true);
 }
 
 // The cells where the lowest condition, of cardinality `card`, is k.

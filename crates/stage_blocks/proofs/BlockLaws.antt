@@ -1,10 +1,11 @@
 -- Laws of step 5 in a stage's buffer.
 use Prim.Native.Nat.{ℕ, _+_, _-_, _*_, _≤_, _<_}
 use mathlib.Core.Path.{_≡_, refl, sym, _∙_, ap, ap₂, subst}
-use mathlib.Core.List.{List}
+use mathlib.Core.List.{List, _++_}
 use mathlib.Core.Logic.{inl, inr, ⊎-elim}
 use native.Mathlib.Omega.{arith}
-use lib.ListN.{length}
+use lib.ListN.{length, List·getD-append}
+use lib.Seq.{getD-append-add}
 use Rattle.rules.specs.declared.Gate.{Gate}
 use Rattle.rules.specs.declared.Gate.the-variants.{Min, Max}
 use Rattle.rules.specs.Bytes.{at, tabulate}
@@ -18,7 +19,7 @@ use Rattle.laws.proofs.CellLaws.{cell-lt, moved-at}
 use Rattle.tables.specs.Part.{part, Laid, Shaped, Apart, Two, stageAt}
 use Rattle.tables.proofs.PartLaws.{part-length, laid-as, laid-part, laid-apart}
 use Rattle.join_tables.specs.Parts.{turned, Below}
-use Rattle.join_tables.proofs.HoldLaws.{laid-within}
+use Rattle.join_tables.proofs.HoldLaws.{laid-within, holds-part}
 use Rattle.join_tables.proofs.TurnLaws.{below-part}
 use Rattle.join_tables.proofs.StepLaws.{before, behind, above-below, grades-below}
 use Rattle.stage_drops.specs.Working.{Room}
@@ -33,35 +34,37 @@ count-part {w} {w′} {a} f e h q l = laid-part (subst (λ (i : ℕ). Laid w a (
 pub there : (w : List ℕ) {c k : ℕ} (f : ℕ → ℕ) → c ≡ k → part w (f c) k ≡ part w (f k) k
 there w {c} {k} f e = ap (λ (x : ℕ). part w (f x) k) e
 
+-- two tables laid one behind the other, as the parts where they stand
+laid-both : {w w′ s t : List ℕ} {a n : ℕ} → length s ≡ n → length t ≡ n → a + 2 * n ≤ length w → Laid w a (s ++ t) (2 * n) w′
+    → (part w′ a n ≡ s) × (part w′ (a + n) n ≡ t)
+laid-both {w} {w′} {s} {t} {a} {n} e f h l =
+    let q = l .len in (
+      holds-part (record { here = λ k lt. l .here k (omega arith) ∙ List·getD-append s t 0 k (omega arith) }) (omega arith) e,
+      holds-part
+          (record {
+            here = λ k lt.
+                let i : a + n + k ≡ a + (length s + k) = omega arith in
+                ap (at w′) i ∙ l .here (length s + k) (omega arith) ∙ getD-append-add s t k 0;
+          })
+          (omega arith)
+          f,
+    )
+
 -- two tables moved to 8 × c
-module _ {w ks b : List ℕ} {c k : ℕ} (r : LimitsRoom w ks b c) (low high : ℕ) (hl : low + cells ks ≤ 8 * c) (hh : high + cells ks ≤ 8 * c) (e : k ≡ cells b) where
-  pub lay-lower : Shaped ks × Shaped b × (k ≡ cells b) × Apart w low (cells ks) (8 * c) (cells b)
-  lay-lower = let s = r .space in (r .own .shaped, r .shaped, e, before low (cells ks) (8 * c) (cells b) hl (omega arith))
+module _ {w ks b : List ℕ} {c : ℕ} (r : LimitsRoom w ks b c) where
+  pub lay-both : {low high n : ℕ} → low + cells ks ≤ 8 * c → high + cells ks ≤ 8 * c → n ≡ cells b
+      → Shaped ks × Shaped b × (n ≡ cells b) × Apart w low (cells ks) (8 * c) (2 * cells b) × Apart w high (cells ks) (8 * c) (2 * cells b)
+  lay-both hl hh e = (r .own .shaped, r .shaped, e, before _ (cells ks) (8 * c) (2 * cells b) hl (r .space), before _ (cells ks) (8 * c) (2 * cells b) hh (r .space))
 
-  module _ {w₁ : List ℕ} (l : Laid w (8 * c) (moved ks b (part w low (cells ks))) (cells b) w₁) where
-    pub lay-upper : Shaped ks × Shaped b × (k ≡ cells b) × Apart w₁ high (cells ks) (8 * c + k) (cells b)
-    lay-upper =
-        let s = r .space in
-        let q = l .len in
-        (r .own .shaped, r .shaped, e, before high (cells ks) (8 * c + k) (cells b) (omega arith) (omega arith))
-
-    pub both-laid : {w₂ : List ℕ} → Laid w₁ (8 * c + k) (moved ks b (part w₁ high (cells ks))) (cells b) w₂ → LimitsLaid ks b (stageAt ks w low high .limits) c w w₂
-    both-laid {w₂} j =
-        let s = r .space in
-        let q = l .len in
-        let lower : part w₂ (8 * c) (cells b) ≡ moved ks b (part w low (cells ks)) =
-        laid-apart (before (8 * c) (cells b) (8 * c + k) (cells b) (omega arith) (omega arith)) j
-        ∙ laid-part l (omega arith) (length-tabulateFrom _ 0 (cells b)) in
-        let upper : part w₂ (8 * c + k) (cells b) ≡ moved ks b (part w high (cells ks)) =
-        laid-part j (omega arith) (length-tabulateFrom _ 0 (cells b))
-        ∙ ap (moved ks b) (laid-apart (before high (cells ks) (8 * c) (cells b) hh (omega arith)) l) in
-        record {
-          stage = ap₂ (λ (x y : List ℕ). stageOf b (limitsOf x y)) lower (ap (λ (i : ℕ). part w₂ (8 * c + i) (cells b)) (sym e) ∙ upper);
-          kept = λ a n h.
-              let i = h .inside in
-              laid-apart (before a n (8 * c + k) (cells b) (omega arith) (omega arith)) j ∙ laid-apart (before a n (8 * c) (cells b) i (omega arith)) l;
-          len = j .len ∙ q;
-        }
+  pub both-laid : {w′ : List ℕ} (low high : ℕ) → Laid w (8 * c) (moved ks b (part w low (cells ks)) ++ moved ks b (part w high (cells ks))) (2 * cells b) w′
+      → LimitsLaid ks b (stageAt ks w low high .limits) c w w′
+  both-laid low high l =
+      let parts = laid-both (length-tabulateFrom _ 0 (cells b)) (length-tabulateFrom _ 0 (cells b)) (r .space) l in
+      record {
+        stage = ap₂ (λ (x y : List ℕ). stageOf b (limitsOf x y)) (parts .0) (parts .1);
+        kept = λ a n h. laid-apart (before a n (8 * c) (2 * cells b) (h .inside) (r .space)) l;
+        len = l .len;
+      }
 
 -- limits laid for the gate that was found
 pub laid-gate : {gate g : Gate} {ks b w w′ : List ℕ} {c : ℕ} (m low high : ℕ) → gate ≡ g → LimitsLaid ks b (exchangeFor g ks m (stageAt ks w low high .limits)) c w w′

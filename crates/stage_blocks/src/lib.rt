@@ -16,8 +16,7 @@ fn lay(w: &mut [u8], ks: [u8; PLACES], b: [u8; PLACES], low: usize, high: usize,
     ensures { λ _. ⌜ LimitsLaid ks b (stageAt ks (now (w .entry)) low high .limits) c (now (w .entry)) (now (w .exit)) ⌝ }
 {
     let n = places::cell_count(b);
-    moves::moved(w, ks, b, n, low, 8 * c);
-    moves::moved(w, ks, b, n, high, 8 * c + n);
+    moves::moved_both(w, ks, b, n, low, high, 8 * c);
 }
 
 // The same, the limits being exchanged for min: parts 3 and 4 are then lost.

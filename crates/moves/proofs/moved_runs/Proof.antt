@@ -1,14 +1,13 @@
 -- `moves::moved_runs` meets its contract.
 use Prim.Native.Nat.{ℕ, _+_, _-_, _*_, _/_, _≤_}
 use mathlib.Core.Path.{_≡_, _∙_, ap}
+use mathlib.Core.Logic.{⊎-elim}
 use native.Mathlib.Nat.{mul-zero, div-le-self}
 use native.Mathlib.Omega.{arith}
 use borrow.Author.Needs.{needs}
-use Rattle.rules.specs.Bytes.{pick, at}
-use Rattle.rules.specs.Cell.{cells, remap}
-use Rattle.tables.specs.Part.{part}
-use Rattle.tables.proofs.PartLaws.{Filled, filled-none, filled-all}
-use Rattle.moves.proofs.MoveLaws.{Starts, runs-some, runs-begin, runs-all, runs-in, runs-from, runs-apart, runs-more}
+use Rattle.rules.specs.Bytes.{pick}
+use Rattle.tables.specs.Part.{Apart}
+use Rattle.moves.proofs.MoveLaws.{Starts, Laying, laying-none, laying-one, laying-all, runs-some, runs-begin, runs-all, lower-apart, lower-more, upper-apart, upper-more}
 use Rattle.moves.proofs.moved_runs.Statement.{statement}
 use Rattle.moves.proofs.moved_runs.Tie as tie
 use Rattle.moves.proofs.moved_runs.Reads as reads
@@ -17,62 +16,100 @@ use Rattle.moves.proofs.lay_run.Reads as lay-run-reads
 use Rattle.moves.proofs.next.Reads as next-reads
 
 abbrev Inv-loop : tie.InvT-loop
-Inv-loop w₀ a b n from to run along len count d₀ r₀ w d r = (r ≤ count) × Starts a b run d r × Filled w₀ to (λ c. at (part w₀ from (cells a)) (remap b a c)) (len * r) w
+Inv-loop w₀ a b n low high to both run along len count d₀ r₀ w d r =
+    (r ≤ count) × Starts a b run d r × Laying w₀ a b n low high to both (len * r) (len * r) w
 
 abbrev μ-loop : tie.MeasureT-loop
-μ-loop w₀ a b n from to run along len count d₀ r₀ w d r = count - r
+μ-loop w₀ a b n low high to both run along len count d₀ r₀ w d r = count - r
 
 div-count : tie.Need-div-count Inv-loop μ-loop
-div-count c = let b = c .before in runs-some (b .pre .3) (b .pre .1)
+div-count c = let p = c .before .pre in runs-some (p .1) (p .0 .shaped)
 
 loop-holds : tie.Need-loop-holds Inv-loop μ-loop
-loop-holds c = let b = c .before in (search needs, runs-begin (b .pre .0) (b .pre .1) (b .pre .3), rw mul-zero (filled-none _ _ _))
+loop-holds c = let p = c .before .pre in (search needs, runs-begin (p .0) (p .1), rw mul-zero (laying-none _ _ _ _ _ _ _ _))
 
--- run r: cells of a to read, and cells of b to write
-reads-in : (c : lts.In-loop (lay-run-reads.Asked, lay-run-reads.Learnt, next-reads.Asked, next-reads.Learnt) reads.Pre reads.Post Inv-loop μ-loop)
-    → let s = c .before .before .before .args in c .before .loop .d + pick (s .along) (s .run .cells) 1 ≤ cells (s .a)
-reads-in c = let p = c .before .before .before .pre in runs-from (p .0) (p .1) (p .3) (p .2) (c .loop-test .taken) (c .before .loop .inv .1)
-
-writes-in : (c : lts.In-loop (lay-run-reads.Asked, lay-run-reads.Learnt, next-reads.Asked, next-reads.Learnt) reads.Pre reads.Post Inv-loop μ-loop)
-    → let s = c .before .before .before .args in s .run .cells * c .before .loop .r + s .run .cells ≤ cells (s .b)
-writes-in c = let p = c .before .before .before .pre in runs-in (p .0) (p .1) (p .3) (p .2) (c .loop-test .taken) (c .before .loop .inv .1)
+-- run r of the first table
+first : (c : lts.In-loop (lay-run-reads.Asked, lay-run-reads.Learnt, next-reads.Asked, next-reads.Learnt) reads.Pre reads.Post Inv-loop μ-loop)
+    → let s = c .before .before .before .args in let l = c .before .loop in
+    Apart (l .w) (s .low + l .d) (pick (s .along) (s .run .cells) 1) (s .to + s .run .cells * l .r) (s .run .cells)
+first c =
+    let p = c .before .before .before .pre in
+    let i = c .before .loop .inv in
+    lower-apart (p .0) (p .1) (c .loop-test .taken) (i .1) (i .2)
 
 add-lay-run : tie.Need-add-lay-run Inv-loop μ-loop
-add-lay-run c = let p = c .before .before .before .before .pre .4 .src in omega (arith, reads-in (c .before))
+add-lay-run c = let p = first (c .before) .src in omega arith
 
 mul-lay-run : tie.Need-mul-lay-run Inv-loop μ-loop
-mul-lay-run c = let p = c .before .before .before .before .pre .4 .dst in omega (arith, writes-in (c .before))
+mul-lay-run c = let p = first (c .before) .dst in omega arith
 
 add-lay-run-2 : tie.Need-add-lay-run-2 Inv-loop μ-loop
-add-lay-run-2 c = let p = c .before .before .before .before .pre .4 .dst in omega (arith, writes-in (c .before))
+add-lay-run-2 c = let p = first (c .before) .dst in omega arith
 
 lay-run-requires : tie.Need-lay-run-requires Inv-loop μ-loop
-lay-run-requires c κs =
-    let t = c .before in
+lay-run-requires c κs = first (c .before)
+
+-- what stands there then
+half : (c : lts.After-slice-known2 (lay-run-reads.Asked, lay-run-reads.Learnt, next-reads.Asked, next-reads.Learnt) reads.Pre reads.Post Inv-loop μ-loop)
+    → let t = c .before .before .before .before in let s = t .before .before .before .args in let l = t .before .loop in
+    Laying (s .w .now) (s .a) (s .b) (s .n) (s .low) (s .high) (s .to) (s .both) (s .run .cells * (l .r + 1)) (s .run .cells * l .r)
+    (c .before .before .lay-run .last .0)
+half c =
+    let t = c .before .before .before .before in
     let p = t .before .before .before .pre in
-    let l = t .before .loop in
-    runs-apart (p .0) (p .1) (p .3) (p .2) (t .loop-test .taken) (l .inv .1) (p .4) (l .inv .2 .len)
+    let i = t .before .loop .inv in
+    lower-more (p .0) (p .1) (t .loop-test .taken) (i .1) (i .2) (c .before .before .lay-run .ensures)
+
+-- run r of the second
+second : (c : lts.Then1 (lay-run-reads.Asked, lay-run-reads.Learnt, next-reads.Asked, next-reads.Learnt) reads.Pre reads.Post Inv-loop μ-loop)
+    → let t = c .before .before .before .before .before in let s = t .before .before .before .args in let l = t .before .loop in
+    Apart (c .before .before .before .lay-run .last .0) (s .high + l .d) (pick (s .along) (s .run .cells) 1) (s .to + s .n + s .run .cells * l .r) (s .run .cells)
+second c =
+    let t = c .before .before .before .before .before in
+    let p = t .before .before .before .pre in
+    upper-apart (p .0) (p .1) (t .loop-test .taken) (t .before .loop .inv .1) (c .if1 .taken) (half (c .before))
+
+add-lay-run-3 : tie.Need-add-lay-run-3 Inv-loop μ-loop
+add-lay-run-3 c = let p = second (c .before) .src in omega arith
+
+add-lay-run-4 : tie.Need-add-lay-run-4 Inv-loop μ-loop
+add-lay-run-4 c = let p = second (c .before) .dst in omega arith
+
+mul-lay-run-2 : tie.Need-mul-lay-run-2 Inv-loop μ-loop
+mul-lay-run-2 c = let p = second (c .before) .dst in omega arith
+
+add-lay-run-5 : tie.Need-add-lay-run-5 Inv-loop μ-loop
+add-lay-run-5 c = let p = second (c .before) .dst in omega arith
+
+lay-run-requires-2 : tie.Need-lay-run-requires-2 Inv-loop μ-loop
+lay-run-requires-2 c κs = second (c .before)
 
 next-requires : tie.Need-next-requires Inv-loop μ-loop
 next-requires c κs =
-    let b = c .before .before .before .before .before .before .before in
-    (b .pre .0, b .pre .1, b .pre .3 .few, b .pre .3 .first-is, c .before .before .before .before .before .loop .inv .1)
+    let l = c .before .before .before .before .before .before in
+    let p = l .before .before .pre in
+    (p .0 .first, p .0 .shaped, p .1 .few, p .1 .first-is, l .loop .inv .1)
 
 add-r : tie.Need-add-r Inv-loop μ-loop
 add-r c =
-    let b = c .before .before .before .before .before .before .before .before in
-    let few = b .pre .1 .few in
-    omega (arith, b .pre .2, div-le-self (b .args .n) (b .args .run .cells))
+    let b = c .before .before .before .before .before .before .before .before .before in
+    let few = b .pre .0 .shaped .few in
+    omega (arith, b .pre .0 .count, div-le-self (b .args .n) (b .args .run .cells))
 
 loop-less : tie.Need-loop-less Inv-loop μ-loop
 loop-less c = search needs
 
 loop-again : tie.Need-loop-again Inv-loop μ-loop
 loop-again c =
-    let t = c .before .before .before .before .before in
-    let p = t .before .before .before .pre in
-    let l = t .before .loop in
-    (search needs, c .next .ensures, runs-more (p .0) (p .1) (p .3) (p .2) (t .loop-test .taken) (l .inv .1) (p .4) (l .inv .2) (c .before .before .before .lay-run .ensures))
+    let k = c .before .before in
+    let t = k .before .before .before .before in
+    let p = t .before .before .before .pre in (
+      search needs,
+      c .next .ensures,
+      ⊎-elim (λ x. rw (x .5) (upper-more (p .0) (p .1) (t .loop-test .taken) (t .before .loop .inv .1) (x .0 .taken) (half k) (x .2 .ensures)))
+          (λ x. rw (x .1) (laying-one (x .0 .left) (half k)))
+          (c .before .if1 .came),
+    )
 
 same-length : tie.Need-same-length Inv-loop μ-loop
 same-length c = search needs
@@ -81,9 +118,10 @@ returns : tie.Need-returns Inv-loop μ-loop
 returns c =
     let b = c .before .before .before in
     let s = b .args in
+    let p = b .pre in
     let l = c .before .loop in
     let e : l .r ≡ s .n / s .run .cells = omega arith in
-    filled-all (cells (s .b)) (ap (λ (r : ℕ). s .run .cells * r) e ∙ runs-all (b .pre .0) (b .pre .1) (b .pre .3) (s .n) (b .pre .2)) (l .inv .2)
+    laying-all (s .both) (p .0 .count) (ap (λ (r : ℕ). s .run .cells * r) e ∙ runs-all (p .0) (p .1)) (l .inv .2)
 
 pub moved-runs-spec : {M : Type 1} → statement M
 moved-runs-spec =
@@ -97,6 +135,11 @@ moved-runs-spec =
     mul-lay-run
     add-lay-run-2
     lay-run-requires
+    add-lay-run-3
+    add-lay-run-4
+    mul-lay-run-2
+    add-lay-run-5
+    lay-run-requires-2
     next-requires
     add-r
     loop-less

@@ -1,48 +1,27 @@
 -- `stage_blocks::lay` meets its contract.
 use borrow.Author.Needs.{needs}
-use Rattle.stage_blocks.proofs.BlockLaws.{lay-lower, lay-upper, both-laid}
+use Rattle.stage_blocks.proofs.BlockLaws.{lay-both, both-laid}
 use Rattle.stage_blocks.proofs.lay.Statement.{statement}
 use Rattle.stage_blocks.proofs.lay.Tie as tie
 
 cell-count-requires : tie.Need-cell-count-requires
 cell-count-requires c κs = search needs
 
-mul-moved : tie.Need-mul-moved
-mul-moved c = search needs
+mul-moved-both : tie.Need-mul-moved-both
+mul-moved-both c = search needs
 
-moved-requires : tie.Need-moved-requires
-moved-requires c κs =
-    let b = c .before .before .before in
-    lay-lower (b .pre .0) (b .args .low) (b .args .high) (b .pre .1) (b .pre .2) (c .before .cell-count .ensures)
-
-mul-moved-2 : tie.Need-mul-moved-2
-mul-moved-2 c = search needs
-
-add-moved : tie.Need-add-moved
-add-moved c = search needs
-
-moved-requires-2 : tie.Need-moved-requires-2
-moved-requires-2 c κs =
-    let b = c .before .before .before .before .before .before .before in
-    lay-upper (b .pre .0) (b .args .low) (b .args .high) (b .pre .1) (b .pre .2) (c .before .before .before .before .before .cell-count .ensures) (c .before .before .before .moved .ensures)
+moved-both-requires : tie.Need-moved-both-requires
+moved-both-requires c κs =
+    let p = c .before .before .before .pre in
+    lay-both (p .0) (p .1) (p .2) (c .before .cell-count .ensures)
 
 same-length : tie.Need-same-length
 same-length c = search needs
 
 returns : tie.Need-returns
 returns c =
-    let b = c .before .before .before .before .before .before .before .before .before .before in
-    both-laid (b .pre .0) (b .args .low) (b .args .high) (b .pre .1) (b .pre .2) (c .before .before .before .before .before .before .before .before .cell-count .ensures) (c .before .before .before .before .before .before .moved .ensures) (c .before .before .moved2 .ensures)
+    let b = c .before .before .before .before .before .before in
+    both-laid (b .pre .0) (b .args .low) (b .args .high) (c .before .before .moved-both .ensures)
 
 pub lay-spec : {M : Type 1} → statement M
-lay-spec =
-    tie.close
-    (tie.spec
-    cell-count-requires
-    mul-moved
-    moved-requires
-    mul-moved-2
-    add-moved
-    moved-requires-2
-    same-length
-    returns)
+lay-spec = tie.close (tie.spec cell-count-requires mul-moved-both moved-both-requires same-length returns)
