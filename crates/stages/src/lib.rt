@@ -61,23 +61,25 @@ fn join(
     ensures { λ n. ⌜ Joined gate m ks (of .s) (of .t) c want (now (w .entry)) (now (network .entry)) r n (now (w .exit)) (now (network .exit)) ⌝ }
 {
     let rest = 8 * c;
-    let a = stage_blocks::first_table(w, gate, m, ks, of.t, c);
+    let first_block = stage_blocks::first_table(w, gate, m, ks, of.t, c);
+    let a = first_block.places;
     let first = stage(
         &mut w[rest..],
         network,
         a,
-        places::cell_count(a),
+        first_block.cells,
         m,
         r,
         false,
         true,
     );
-    let b = stage_blocks::second_table(w, gate, m, ks, a, of.s, c);
+    let second_block = stage_blocks::second_table(w, gate, m, ks, a, of.s, c);
+    let b = second_block.places;
     let second = stage(
         &mut w[rest..],
         network,
         b,
-        places::cell_count(b),
+        second_block.cells,
         m,
         first.next,
         false,

@@ -20,7 +20,7 @@ mul-complement : tie.Need-mul-complement
 mul-complement c = search needs
 
 complement-requires : tie.Need-complement-requires
-complement-requires c κs = let b = c .before .before .before .before in exchange-upper (b .pre .0) (b .pre .2) (b .pre .3)
+complement-requires c κs = let b = c .before .before .before .before in exchange-upper (b .pre .0) (b .pre .3) (b .pre .4)
 
 sub-complement-2 : tie.Need-sub-complement-2
 sub-complement-2 c = search needs
@@ -29,7 +29,7 @@ mul-complement-2 : tie.Need-mul-complement-2
 mul-complement-2 c = search needs
 
 complement-requires-2 : tie.Need-complement-requires-2
-complement-requires-2 c κs = let b = c .before .before .before .before .before .before .before .before in exchange-lower (b .pre .0) (b .pre .2) (b .pre .3) (c .before .before .before .complement .ensures)
+complement-requires-2 c κs = let b = c .before .before .before .before .before .before .before .before in exchange-lower (b .pre .0) (b .pre .3) (b .pre .4) (c .before .before .before .complement .ensures)
 
 mul-lay : tie.Need-mul-lay
 mul-lay c = search needs
@@ -39,45 +39,24 @@ mul-lay-2 c = search needs
 
 lay-requires-2 : tie.Need-lay-requires-2
 lay-requires-2 c κs =
-    let d = c .before .before .before .before .before .before .before in
-    let b = d .before .before .before .before .before in
-    exchanged-room (b .pre .0) (b .pre .2) (b .pre .3) (d .complement .ensures) (c .before .before .before .complement2 .ensures)
+    let b = c .before .before .before .before .before .before .before .before .before .before .before .before in
+    let r = exchanged-room (b .pre .0) (b .pre .3) (b .pre .4) (c .before .before .before .before .before .before .before .complement .ensures) (c .before .before .before .complement2 .ensures) in
+    (r .0, b .pre .1, r .1, r .2)
 
 same-length : tie.Need-same-length
 same-length c = search needs
 
 returns : tie.Need-returns
-returns c =
-    let b = c .before .before .before .before .before .before .before in
-    laid-gate (b .args .m) (b .args .low) (b .args .high) (c .before .before .before .before .enum-told .given .1) (c .before .before .lay .ensures)
+returns c = let b = c .before .before .before .before .before .before .before in laid-gate (b .args .m) (b .args .low) (b .args .high) (c .before .before .before .before .enum-told .given .1) (c .before .before .lay .ensures)
 
 same-length-2 : tie.Need-same-length-2
 same-length-2 c = search needs
 
 returns-2 : tie.Need-returns-2
 returns-2 c =
-    let d = c .before .before .before .before .before .before .before .before .before .before in
-    let b = d .before .before .before .before .before in
-    laid-gate (b .args .m) (b .args .low) (b .args .high) (d .before .before .enum-told2 .given .1)
-    (laid-min (b .pre .0) (b .pre .2) (b .pre .3) (d .complement .ensures) (c .before .before .before .before .before .before .complement2 .ensures) (c .before .before .lay2 .ensures))
+    let b = c .before .before .before .before .before .before .before .before .before .before .before .before .before .before .before in
+    laid-gate (b .args .m) (b .args .low) (b .args .high) (c .before .before .before .before .before .before .before .before .before .before .before .before .enum-told2 .given .1)
+    (laid-min (b .pre .0) (b .pre .3) (b .pre .4) (c .before .before .before .before .before .before .before .before .before .before .complement .ensures) (c .before .before .before .before .before .before .complement2 .ensures) (c .before .before .lay2 .ensures))
 
 pub lay-limits-spec : {M : Type 1} → statement M
-lay-limits-spec =
-    tie.close
-    (tie.spec
-    enum-told
-    lay-requires
-    enum-told-2
-    sub-complement
-    mul-complement
-    complement-requires
-    sub-complement-2
-    mul-complement-2
-    complement-requires-2
-    mul-lay
-    mul-lay-2
-    lay-requires-2
-    same-length
-    returns
-    same-length-2
-    returns-2)
+lay-limits-spec = tie.close (tie.spec enum-told lay-requires enum-told-2 sub-complement mul-complement complement-requires sub-complement-2 mul-complement-2 complement-requires-2 mul-lay mul-lay-2 lay-requires-2 same-length returns same-length-2 returns-2)
