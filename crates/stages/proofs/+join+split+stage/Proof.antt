@@ -24,7 +24,6 @@ use Rattle.stages.proofs.+join+split+stage.Lts-split as split-lts
 use Rattle.stages.proofs.stage.Reads as stage
 use Rattle.stages.proofs.stage.Kinds as stage-kinds
 use Rattle.stages.proofs.+join+split+stage.Lts-stage as stage-lts
-use Rattle.places.proofs.cell_count.Reads as cell-count-reads
 use Rattle.places.proofs.sets.without_one.Reads as without-one-reads
 use Rattle.stage_blocks.proofs.first_table.Reads as first-table-reads
 use Rattle.stage_blocks.proofs.second_table.Reads as second-table-reads
@@ -68,7 +67,7 @@ stage-below t = and 2 stage-kinds.ps (falls 2 stage-kinds.ps _<_ μ-stage t) sta
 
 -- what `join` asks and learns of the functions that it calls
 abbrev join-claims : ℕ → join-lts.Claims
-join-claims t = (first-table-reads.Asked, first-table-reads.Learnt, cell-count-reads.Asked, cell-count-reads.Learnt, stage-below t, stage.Post, second-table-reads.Asked, second-table-reads.Learnt, close-join-reads.Asked, close-join-reads.Learnt)
+join-claims t = (first-table-reads.Asked, first-table-reads.Learnt, stage-below t, stage.Post, second-table-reads.Asked, second-table-reads.Learnt, close-join-reads.Asked, close-join-reads.Learnt)
 
 -- what `split` asks and learns of the functions that it calls
 abbrev split-claims : ℕ → split-lts.Claims
@@ -88,10 +87,10 @@ join-first-table-requires : (t : ℕ) → join-lts.Need-first-table-requires (jo
 join-first-table-requires t c κs = first-room (c .before .before .before .pre .1 .1)
 
 -- the parts of a stage end within its buffer, before either block's stage
-join-parts : (t : ℕ) (c : join-lts.After-slice-known3 (join-claims t) (join-at t) join.Post) → 8 * c .before .before .before .before .before .before .args .c ≤ length (c .before .before .first-table .last .0)
+join-parts : (t : ℕ) (c : join-lts.After-a (join-claims t) (join-at t) join.Post) → 8 * c .before .before .before .before .before .before .before .args .c ≤ length (c .before .before .before .first-table .last .0)
 join-parts t c =
-    let h = c .before .before .before .before .before .before .pre .1 .1 .left .work in
-    let e = c .before .before .first-table .ensures .len in
+    let h = c .before .before .before .before .before .before .before .pre .1 .1 .left .work in
+    let e = c .before .before .before .first-table .ensures .0 .len in
     omega arith
 
 join-sub-stage : (t : ℕ) → join-lts.Need-sub-stage (join-claims t) (join-at t) join.Post
@@ -103,33 +102,28 @@ join-part-stage-start t c = let h = join-parts t c in search needs
 join-part-stage-end : (t : ℕ) → join-lts.Need-part-stage-end (join-claims t) (join-at t) join.Post
 join-part-stage-end t c = let h = join-parts t c in search needs
 
-join-cell-count-requires : (t : ℕ) → join-lts.Need-cell-count-requires (join-claims t) (join-at t) join.Post
-join-cell-count-requires t c κs = tt
-
 join-stage-requires : (t : ℕ) → join-lts.Need-stage-requires (join-claims t) (join-at t) join.Post
 join-stage-requires t c κs =
-    let d = c .before .before .before .before .before in
-    let b = d .before .before .before .before in
+    let b = c .before .before .before .before .before .before .before .before .before in
     let j = b .pre .1 .1 in
-    let f = d .first-table .ensures in
-    (let e = b .pre .0 in let h = first-fewer j f in omega arith, first-starts j f (c .cell-count .ensures))
+    let f = c .before .before .before .before .before .first-table .ensures in
+    (let e = b .pre .0 in let h = first-fewer j (f .0) in omega arith, first-starts j (f .0) (f .1))
 
 join-second-table-requires : (t : ℕ) → join-lts.Need-second-table-requires (join-claims t) (join-at t) join.Post
 join-second-table-requires t c κs =
-    let d = c .before .before .before .before .before .before .before .before .before .before .before in
-    let j = d .before .before .before .before .pre .1 .1 in
-    let f = d .first-table .ensures in
+    let j = c .before .before .before .before .before .before .before .before .before .before .before .before .before .before .before .pre .1 .1 in
+    let f = c .before .before .before .before .before .before .before .before .before .before .before .first-table .ensures .0 in
     let x = c .before .before .before .before .before .stage .ensures in
     second-room j f x (first-back j f x)
 
-join-parts-2 : (t : ℕ) (c : join-lts.After-slice-known6 (join-claims t) (join-at t) join.Post) → 8 * c .before .before .before .before .before .before .before .before .before .before .before .before .before .before .before .before .before .before .args .c ≤ length (c .before .before .second-table .last .0)
+join-parts-2 : (t : ℕ) (c : join-lts.After-b (join-claims t) (join-at t) join.Post) → 8 * c .before .before .before .before .before .before .before .before .before .before .before .before .before .before .before .before .before .before .before .args .c ≤ length (c .before .before .before .second-table .last .0)
 join-parts-2 t c =
-    let d = c .before .before .before .before .before .before .before .before .before .before .before .before .before .before in
-    let b = d .before .before .before .before in
-    let h = b .pre .1 .1 .left .work in
-    let k = first-back (b .pre .1 .1) (d .first-table .ensures) (c .before .before .before .before .before .before .before .before .stage .ensures) .len in
-    let e = d .first-table .ensures .len in
-    let i = c .before .before .second-table .ensures .len in
+    let j = c .before .before .before .before .before .before .before .before .before .before .before .before .before .before .before .before .before .before .before .pre .1 .1 in
+    let f = c .before .before .before .before .before .before .before .before .before .before .before .before .before .before .before .first-table .ensures .0 in
+    let h = j .left .work in
+    let k = first-back j f (c .before .before .before .before .before .before .before .before .before .stage .ensures) .len in
+    let e = f .len in
+    let i = c .before .before .before .second-table .ensures .0 .len in
     omega arith
 
 join-sub-stage-2 : (t : ℕ) → join-lts.Need-sub-stage-2 (join-claims t) (join-at t) join.Post
@@ -141,36 +135,31 @@ join-part-stage-start-2 t c = let h = join-parts-2 t c in search needs
 join-part-stage-end-2 : (t : ℕ) → join-lts.Need-part-stage-end-2 (join-claims t) (join-at t) join.Post
 join-part-stage-end-2 t c = let h = join-parts-2 t c in search needs
 
-join-cell-count-requires-2 : (t : ℕ) → join-lts.Need-cell-count-requires-2 (join-claims t) (join-at t) join.Post
-join-cell-count-requires-2 t c κs = tt
-
 join-stage-requires-2 : (t : ℕ) → join-lts.Need-stage-requires-2 (join-claims t) (join-at t) join.Post
 join-stage-requires-2 t c κs =
-    let d = c .before .before .before .before .before .before .before .before .before .before .before .before .before .before .before .before .before in
-    let b = d .before .before .before .before in
+    let b = c .before .before .before .before .before .before .before .before .before .before .before .before .before .before .before .before .before .before .before .before .before in
     let j = b .pre .1 .1 in
-    let f = d .first-table .ensures in
+    let f = c .before .before .before .before .before .before .before .before .before .before .before .before .before .before .before .before .before .first-table .ensures .0 in
     let x = c .before .before .before .before .before .before .before .before .before .before .before .stage .ensures in
     let k = first-back j f x in
     let z = c .before .before .before .before .before .second-table .ensures in
-    (let e = b .pre .0 in let h = second-fewer j f x k z in omega arith, second-starts j f x k z (c .cell-count2 .ensures))
+    (let e = b .pre .0 in let h = second-fewer j f x k (z .0) in omega arith, second-starts j f x k (z .0) (z .1))
 
 join-close-join-requires : (t : ℕ) → join-lts.Need-close-join-requires (join-claims t) (join-at t) join.Post
 join-close-join-requires t c κs =
-    let d = c .before .before .before .before .before .before .before .before .before .before .before .before .before .before .before .before .before .before .before .before .before .before .before .before in
-    let j = d .before .before .before .before .pre .1 .1 in
-    let f = d .first-table .ensures in
+    let j = c .before .before .before .before .before .before .before .before .before .before .before .before .before .before .before .before .before .before .before .before .before .before .before .before .before .before .before .before .pre .1 .1 in
+    let f = c .before .before .before .before .before .before .before .before .before .before .before .before .before .before .before .before .before .before .before .before .before .before .before .before .first-table .ensures .0 in
     let x = c .before .before .before .before .before .before .before .before .before .before .before .before .before .before .before .before .before .before .stage .ensures in
     let k = first-back j f x in
-    let z = c .before .before .before .before .before .before .before .before .before .before .before .before .second-table .ensures in
+    let z = c .before .before .before .before .before .before .before .before .before .before .before .before .second-table .ensures .0 in
     let x′ = c .before .before .before .before .before .before .stage2 .ensures in
     close-room j f x k z x′ (second-back j f x k z x′)
 
 join-returns : (t : ℕ) → join-lts.Need-returns (join-claims t) (join-at t) join.Post
 join-returns t c =
-    let f = c .before .before .before .before .before .before .before .before .before .before .before .before .before .before .before .before .before .before .before .before .before .before .before .before .before .before .before .before .before .first-table .ensures in
+    let f = c .before .before .before .before .before .before .before .before .before .before .before .before .before .before .before .before .before .before .before .before .before .before .before .before .before .before .before .before .before .first-table .ensures .0 in
     let x = c .before .before .before .before .before .before .before .before .before .before .before .before .before .before .before .before .before .before .before .before .before .before .before .stage .ensures in
-    let z = c .before .before .before .before .before .before .before .before .before .before .before .before .before .before .before .before .before .second-table .ensures in
+    let z = c .before .before .before .before .before .before .before .before .before .before .before .before .before .before .before .before .before .second-table .ensures .0 in
     let x′ = c .before .before .before .before .before .before .before .before .before .before .before .stage2 .ensures in
     record {
       whole = λ l j.
@@ -378,13 +367,11 @@ pub +join+split+stage-spec : {M : Type 1} → statement M
     (join-sub-stage t)
     (join-part-stage-start t)
     (join-part-stage-end t)
-    (join-cell-count-requires t)
     (join-stage-requires t)
     (join-second-table-requires t)
     (join-sub-stage-2 t)
     (join-part-stage-start-2 t)
     (join-part-stage-end-2 t)
-    (join-cell-count-requires-2 t)
     (join-stage-requires-2 t)
     (join-close-join-requires t)
     (join-same-length t)
