@@ -129,5 +129,14 @@ fn build(shape: Shape, lower: &[u8], upper: &[u8], work: &mut [u8], network: &mu
     let end = WORK * cells;
     fill::load(work, lower, 0, cells);
     fill::load(work, upper, cells, cells);
-    stages::stage(&mut work[..end], network, shape.places(), cells, shape.m, 0, false, false)
+    stages::stage(
+        &mut work[..end],
+        network,
+        shape.places(),
+        cells,
+        shape.m,
+        0,
+        false,
+        false,
+    )
 }

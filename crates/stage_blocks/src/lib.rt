@@ -47,14 +47,7 @@ fn lay_limits(
 
 // The first block's table, from what was prepared for it: its places, and how many cells these have. Parts 0 and 1
 // stay.
-pub fn first_table(
-    w: &mut [u8],
-    gate: Gate,
-    m: u8,
-    ks: [u8; PLACES],
-    t: u8,
-    c: usize,
-) -> Left
+pub fn first_table(w: &mut [u8], gate: Gate, m: u8, ks: [u8; PLACES], t: u8, c: usize) -> Left
     requires { ⌜ FirstRoom (now w) ks m t c ⌝ }
     ensures { λ r. ⌜ FirstLaid gate m ks t c (now (w .entry)) (r .places) (now (w .exit)) × (r .cells ≡ cells (r .places)) ⌝ }
 {

@@ -34,14 +34,7 @@ pub fn leaf(w: &[u8], network: &mut [u8], low: Condition, r: usize) -> Extent
 }
 
 // The join's function, from its blocks', where it is wanted.
-fn join_if(
-    w: &mut [u8],
-    want: bool,
-    gate: Gate,
-    ks: [u8; PLACES],
-    b: [u8; PLACES],
-    c: usize,
-)
+fn join_if(w: &mut [u8], want: bool, gate: Gate, ks: [u8; PLACES], b: [u8; PLACES], c: usize)
     requires { ⌜ JoinedRoom (now w) ks b c ⌝ }
     ensures { λ _. ⌜ Wanted want (JoinedLaid gate ks b c (now (w .entry))) (now (w .entry)) (now (w .exit)) ⌝ }
 {
