@@ -1,9 +1,9 @@
 -- Tables moved to other places, run by run.
 use Prim.Native.Nat.{ℕ, _+_, _-_, _*_, _/_, _≤_, _<_}
 use mathlib.Core.Path.{_≡_, refl, sym, _∙_, ap, subst}
-use mathlib.Core.Bool.{Bool, true, false}
+use mathlib.Core.Bool.{Bool, true, false, false≢true}
 use mathlib.Core.List.{List, _++_}
-use mathlib.Core.Logic.{_⊎_, inl, inr, ⊎-elim}
+use mathlib.Core.Logic.{inl, inr, ⊎-elim}
 use native.Mathlib.Omega.{arith}
 use native.Mathlib.Nat.{mul-zero, mul-suc, mul-div-cancel-left}
 use native.Mathlib.Numerals.{add-one}
@@ -20,7 +20,7 @@ use Rattle.laws.proofs.TableLaws.{at-tabulate, length-tabulateFrom}
 use Rattle.laws.proofs.TestLaws.{by-order}
 use Rattle.moves.specs.declared.Run.{Run}
 use Rattle.tables.specs.Part.{part, Laid, Apart, Shaped}
-use Rattle.moves.specs.Move.{remapFrom, Runs}
+use Rattle.moves.specs.Move.{remapFrom, Runs, together, room, Moving}
 use Rattle.tables.proofs.PartLaws.{Filled, read-part, filled-laid}
 use Rattle.tables.proofs.LineLaws.{line-end}
 use Rattle.tables.proofs.OverLaws.{step-rest}
@@ -69,155 +69,160 @@ runs-other {a} {b} {i} {s} {t} q p h ha hb n x =
 abbrev pub Starts : List ℕ → List ℕ → Run → ℕ → ℕ → Type 0
 Starts a b u d r = d ≡ u .first * remapFrom (u .places) b a r
 
-pub runs-begin : (a b : List ℕ) (u : Run) → Starts a b u 0 0
-runs-begin a b u = sym (ap (λ (y : ℕ). u .first * y) (remap-first (u .places) b a) ∙ mul-zero (u .first))
+-- one table fits in either case
+room-one : (both : Bool) (n : ℕ) → n ≤ room both n
+room-one true n = omega arith
+room-one false n = omega arith
 
--- the runs are all cells of b
-pub runs-all : {a b : List ℕ} {n : ℕ} {along : Bool} {u : Run} → Shaped b → n ≡ cells b → Runs a b along u → u .cells * (n / u .cells) ≡ cells b
-runs-all {b = b} {n} {u = u} p e x =
-    let q = cells (drop (u .places) b) in
-    let all : n ≡ u .cells * q = e ∙ sym (step-rest b (u .places)) ∙ ap (λ (y : ℕ). y * q) (sym (x .cells-is)) in
-    ap (λ (y : ℕ). u .cells * (y / u .cells)) all ∙ ap (λ (y : ℕ). u .cells * y) (mul-div-cancel-left q (runs-some x p)) ∙ sym all ∙ e
-
--- w′ is w but for the m bytes at `to`
+-- w′ is w but for the n bytes at `to`
 abbrev Kept : List ℕ → ℕ → ℕ → List ℕ → Type 0
-Kept w to m w′ = Filled w to (λ k. at w′ (to + k)) m w′
+Kept w to n w′ = Filled w to (λ k. at w′ (to + k)) n w′
 
--- a loop's state, for one table: it was at `from` in w, apart from the m bytes at `to` that may be written, and its
--- first k cells stand, moved, at z among those
-pub record Laying (w a b : List ℕ) (from to m z k : ℕ) (w′ : List ℕ) : Type 0 where
-  pub parts : Apart w from (cells a) to m
-  pub begins : to ≤ z
-  pub ends : z + cells b ≤ to + m
-  pub few : k ≤ cells b
-  pub kept : Kept w to m w′
-  pub here : (c : ℕ) → c < k → at w′ (z + c) ≡ at (part w from (cells a)) (remap b a c)
+-- in w′ the first k cells stand at z of the table that was at `from` in w, moved
+abbrev Stands : (w a b : List ℕ) (from z k : ℕ) (w′ : List ℕ) → Type 0
+Stands w a b from z k w′ = (c : ℕ) → c < k → at w′ (z + c) ≡ at (part w from (cells a)) (remap b a c)
 
-pub laying-none : {w a b : List ℕ} {from to m z : ℕ} → Apart w from (cells a) to m → to ≤ z → z + cells b ≤ to + m → Laying w a b from to m z 0 w
-laying-none p lo hi =
+-- a loop's state: k cells of the first table stand there, and l of the second, if there is one
+pub record Laying (w a b : List ℕ) (n low high to : ℕ) (both : Bool) (k l : ℕ) (w′ : List ℕ) : Type 0 where
+  pub kept : Kept w to (room both (cells b)) w′
+  pub lower : Stands w a b low to k w′
+  pub upper : both ≡ true → Stands w a b high (to + n) l w′
+
+pub laying-none : (w a b : List ℕ) (n low high to : ℕ) (both : Bool) → Laying w a b n low high to both 0 0 w
+laying-none w a b n low high to both =
     record {
-      parts = p;
-      begins = lo;
-      ends = hi;
-      few = omega arith;
       kept = record { len = refl; here = λ k h. refl; before = λ j h. refl; after = λ j h. refl };
-      here = λ c h. absurd (omega arith);
+      lower = λ c h. absurd (omega arith);
+      upper = λ e c h. absurd (omega arith);
     }
 
--- a turn of a loop: run r of b is next, and begins at cell d of a
-pub record Turn (a b : List ℕ) (n : ℕ) (along : Bool) (u : Run) (d r : ℕ) : Type 0 where
-  pub first : Shaped a
-  pub shaped : Shaped b
-  pub count : n ≡ cells b
-  pub runs : Runs a b along u
-  pub left : r < n / u .cells
-  pub starts : Starts a b u d r
+-- where there is no second
+pub laying-one : {w a b : List ℕ} {n low high to : ℕ} {both : Bool} {k l m : ℕ} {w′ : List ℕ} → both ≡ false
+    → Laying w a b n low high to both k l w′ → Laying w a b n low high to both k m w′
+laying-one e y = record { kept = y .kept; lower = y .lower; upper = λ t. absurd (false≢true (sym e ∙ t)) }
 
-module _ {a b : List ℕ} {n : ℕ} {along : Bool} {u : Run} {d r : ℕ} (t : Turn a b n along u d r) where
-  size : u .cells * (r + 1) ≡ u .cells * r + u .cells
-  size = rw (add-one r) (mul-suc (u .cells) r)
+module _ {w a b : List ℕ} {n low high to : ℕ} {both along : Bool} {u : Run} (v : Moving w a b n low high to both) (x : Runs a b along u) where
+  some : 0 < u .cells
+  some = runs-some x (v .shaped)
 
-  inside : u .cells * r + u .cells ≤ cells b
-  inside = omega (arith, runs-all (t .shaped) (t .count) (t .runs), line-end (u .cells) (n / u .cells) r (t .left))
+  pub runs-begin : Starts a b u 0 0
+  runs-begin = sym (ap (λ (y : ℕ). u .first * y) (remap-first (u .places) b a) ∙ mul-zero (u .first))
 
-  reads : (o : ℕ) → o < u .cells → remap b a (o + u .cells * r) ≡ pick along o 0 + d
-  reads o ho = t .runs .reads r o ho ∙ ap (λ (y : ℕ). pick along o 0 + y) (sym (t .starts))
+  -- the runs are all cells of b
+  pub runs-all : u .cells * (n / u .cells) ≡ cells b
+  runs-all =
+      let q = cells (drop (u .places) b) in
+      let all : n ≡ u .cells * q = v .count ∙ sym (step-rest b (u .places)) ∙ ap (λ (y : ℕ). y * q) (sym (x .cells-is)) in
+      ap (λ (y : ℕ). u .cells * (y / u .cells)) all ∙ ap (λ (y : ℕ). u .cells * y) (mul-div-cancel-left q some) ∙ sym all ∙ v .count
 
-  -- what is read for the run are cells of a
-  read-in : d + pick along (u .cells) 1 ≤ cells a
-  read-in = go along reads
-    where
-      some : 0 < u .cells
-      some = runs-some (t .runs) (t .shaped)
+  module _ {r d : ℕ} (h : r < n / u .cells) (s : Starts a b u d r) where
+    size : u .cells * (r + 1) ≡ u .cells * r + u .cells
+    size = rw (add-one r) (mul-suc (u .cells) r)
 
-      go : (y : Bool) → ((o : ℕ) → o < u .cells → remap b a (o + u .cells * r) ≡ pick y o 0 + d) → d + pick y (u .cells) 1 ≤ cells a
-      go true f = let p = some in omega (arith, f (u .cells - 1) (omega arith), cell-lt a (value b (u .cells - 1 + u .cells * r)) (t .first .some))
-      go false f = omega (arith, f 0 some, cell-lt a (value b (0 + u .cells * r)) (t .first .some))
+    runs-in : u .cells * r + u .cells ≤ cells b
+    runs-in = omega (arith, runs-all, line-end (u .cells) (n / u .cells) r h)
 
-  -- the run of the table at z
-  module _ {w : List ℕ} {from to m z : ℕ} {w′ : List ℕ} (y : Laying w a b from to m z (u .cells * r) w′) where
-    pub run-apart : Apart w′ (from + d) (pick along (u .cells) 1) (z + u .cells * r) (u .cells)
-    run-apart =
-        let l = y .kept .len in
-        let lo = y .begins in
-        let hi = y .ends in
-        record {
-          src = let q = y .parts .src in omega (arith, read-in);
-          dst = let q = y .parts .dst in omega (arith, inside);
-          apart = ⊎-elim (λ q. inl (omega (arith, read-in))) (λ q. inr (omega (arith, inside))) (y .parts .apart);
-        }
+    reads : (o : ℕ) → o < u .cells → remap b a (o + u .cells * r) ≡ pick along o 0 + d
+    reads o ho = x .reads r o ho ∙ ap (λ (y : ℕ). pick along o 0 + y) (sym s)
 
-    module _ {w″ : List ℕ} (l : Laid w′ (z + u .cells * r) (tabulate (u .cells) (λ o. at w′ (from + d + pick along o 0))) (u .cells) w″) where
-      run-kept : Kept w to m w″
-      run-kept =
-          let lo = y .begins in
-          let hi = y .ends in
+    -- what is read for run r are cells of a
+    runs-from : d + pick along (u .cells) 1 ≤ cells a
+    runs-from = go along reads
+      where
+        go : (t : Bool) → ((o : ℕ) → o < u .cells → remap b a (o + u .cells * r) ≡ pick t o 0 + d) → d + pick t (u .cells) 1 ≤ cells a
+        go true f =
+            let p = some in
+            omega (arith, f (u .cells - 1) (omega arith), cell-lt a (value b (u .cells - 1 + u .cells * r)) (v .first .some))
+        go false f = omega (arith, f 0 some, cell-lt a (value b (0 + u .cells * r)) (v .first .some))
+
+    -- run r of the table at z, from the one at `from`
+    abbrev Lays : (from z : ℕ) (w′ w″ : List ℕ) → Type 0
+    Lays from z w′ w″ = Laid w′ (z + u .cells * r) (tabulate (u .cells) (λ o. at w′ (from + d + pick along o 0))) (u .cells) w″
+
+    module _ {from z m : ℕ} {w′ : List ℕ} (p : Apart w from (cells a) to m) (lo : to ≤ z) (hi : z + cells b ≤ to + m) (y : Kept w to m w′) where
+      run-apart : Apart w′ (from + d) (pick along (u .cells) 1) (z + u .cells * r) (u .cells)
+      run-apart =
+          let l = y .len in
           record {
-            len = l .len ∙ y .kept .len;
-            here = λ k lt. refl;
-            before = λ j lt. l .before j (omega arith) ∙ y .kept .before j lt;
-            after = λ j lt. l .after j (omega (arith, inside)) ∙ y .kept .after j lt;
+            src = let q = p .src in omega (arith, runs-from);
+            dst = let q = p .dst in omega (arith, runs-in);
+            apart = ⊎-elim (λ q. inl (omega (arith, runs-from))) (λ q. inr (omega (arith, runs-in))) (p .apart);
           }
 
-      -- one run more of it
-      pub run-more : Laying w a b from to m z (u .cells * (r + 1)) w″
-      run-more =
+      module _ {w″ : List ℕ} (l : Lays from z w′ w″) where
+        run-kept : Kept w to m w″
+        run-kept =
+            record {
+              len = l .len ∙ y .len;
+              here = λ k lt. refl;
+              before = λ j lt. l .before j (omega arith) ∙ y .before j lt;
+              after = λ j lt. l .after j (omega (arith, runs-in)) ∙ y .after j lt;
+            }
+
+        run-stands : Stands w a b from z (u .cells * r) w′ → Stands w a b from z (u .cells * (r + 1)) w″
+        run-stands t k lt = by-order (u .cells * r) k new (λ le. l .before (z + k) (omega arith) ∙ t k le)
+          where
+            new : u .cells * r ≤ k → at w″ (z + k) ≡ at (part w from (cells a)) (remap b a k)
+            new ge =
+                let o = k - u .cells * r in
+                let ho : o < u .cells = omega (arith, size) in
+                let i : z + k ≡ z + u .cells * r + o = omega arith in
+                let f : k ≡ o + u .cells * r = omega arith in
+                let place : from + d + pick along o 0 ≡ from + remap b a k = omega (arith, reads o ho, ap (remap b a) f) in
+                ap (at w″) i ∙ l .here o ho ∙ at-tabulate (u .cells) _ o ho ∙ ap (at w′) place
+                ∙ read-part p y (omega arith) (remap b a k) (cell-lt a (value b k) (v .first .some))
+
+    -- run r of the first table
+    module _ {w′ : List ℕ} (y : Laying w a b n low high to both (u .cells * r) (u .cells * r) w′) where
+      lower-in : to + cells b ≤ to + room both (cells b)
+      lower-in = omega (arith, room-one both (cells b))
+
+      pub lower-apart : Apart w′ (low + d) (pick along (u .cells) 1) (to + u .cells * r) (u .cells)
+      lower-apart = run-apart (v .lower) (omega arith) lower-in (y .kept)
+
+      pub lower-more : {w″ : List ℕ} → Lays low to w′ w″ → Laying w a b n low high to both (u .cells * (r + 1)) (u .cells * r) w″
+      lower-more l =
           record {
-            parts = y .parts;
-            begins = y .begins;
-            ends = y .ends;
-            few = omega (arith, size, inside);
-            kept = run-kept;
-            here = λ k lt. by-order (u .cells * r) k (λ ge. new k ge lt) (λ lo. l .before (z + k) (omega arith) ∙ y .here k lo);
+            kept = run-kept (v .lower) (omega arith) lower-in (y .kept) l;
+            lower = run-stands (v .lower) (omega arith) lower-in (y .kept) l (y .lower);
+            upper = λ e c lt. l .after (to + n + c) (omega (arith, runs-in, v .count)) ∙ y .upper e c lt;
           }
-        where
-          new : (k : ℕ) → u .cells * r ≤ k → k < u .cells * (r + 1) → at w″ (z + k) ≡ at (part w from (cells a)) (remap b a k)
-          new k ge lt =
-              let o = k - u .cells * r in
-              let ho : o < u .cells = omega (arith, size) in
-              let i : z + k ≡ z + u .cells * r + o = omega arith in
-              let f : k ≡ o + u .cells * r = omega arith in
-              let place : from + d + pick along o 0 ≡ from + remap b a k = omega (arith, reads o ho, ap (remap b a) f) in
-              ap (at w″) i ∙ l .here o ho ∙ at-tabulate (u .cells) _ o ho ∙ ap (at w′) place
-              ∙ read-part (y .parts) (y .kept) (omega arith) (remap b a k) (cell-lt a (value b k) (t .first .some))
 
-      -- a table beside it stays
-      pub run-beside : {other x k : ℕ} → Laying w a b other to m x k w′ → (z + cells b ≤ x) ⊎ (x + cells b ≤ z) → Laying w a b other to m x k w″
-      run-beside v e =
-          let few = v .few in
+    -- and then of the second
+    module _ (e : both ≡ true) {w′ : List ℕ} (y : Laying w a b n low high to both (u .cells * (r + 1)) (u .cells * r) w′) where
+      upper-in : to + n + cells b ≤ to + room both (cells b)
+      upper-in = omega (arith, v .count, ap (λ (t : Bool). room t (cells b)) e)
+
+      pub upper-apart : Apart w′ (high + d) (pick along (u .cells) 1) (to + n + u .cells * r) (u .cells)
+      upper-apart = run-apart (v .upper) (omega arith) upper-in (y .kept)
+
+      pub upper-more : {w″ : List ℕ} → Lays high (to + n) w′ w″
+          → Laying w a b n low high to both (u .cells * (r + 1)) (u .cells * (r + 1)) w″
+      upper-more l =
           record {
-            parts = v .parts;
-            begins = v .begins;
-            ends = v .ends;
-            few = v .few;
-            kept = run-kept;
-            here = λ c lt. ⊎-elim (λ q. l .after _ (omega (arith, inside))) (λ q. l .before _ (omega arith)) e ∙ v .here c lt;
+            kept = run-kept (v .upper) (omega arith) upper-in (y .kept) l;
+            lower = λ c lt. l .before (to + c) (omega (arith, size, runs-in, v .count)) ∙ y .lower c lt;
+            upper = λ t. run-stands (v .upper) (omega arith) upper-in (y .kept) l (y .upper e);
           }
 
--- two tables, one behind the other: k cells of the first and l of the second
-abbrev pub Both : (w a b : List ℕ) (n low high to k l : ℕ) (w′ : List ℕ) → Type 0
-Both w a b n low high to k l w′ = Laying w a b low to (2 * cells b) to k w′ × Laying w a b high to (2 * cells b) (to + n) l w′
-
--- all cells of a table
-laying-all : {w a b : List ℕ} {from to m z k : ℕ} {w′ : List ℕ} → k ≡ cells b → Laying w a b from to m z k w′
-    → (c : ℕ) → c < cells b → at w′ (z + c) ≡ at (moved a b (part w from (cells a))) c
-laying-all {b = b} e y c lt = y .here c (omega arith) ∙ sym (at-tabulate (cells b) _ c lt)
-
-pub laying-one : {w a b : List ℕ} {from to k : ℕ} {w′ : List ℕ} → k ≡ cells b → Laying w a b from to (cells b) to k w′
-    → Laid w to (moved a b (part w from (cells a))) (cells b) w′
-laying-one {b = b} e y = filled-laid _ (cells b) refl (y .kept) (laying-all e y)
-
-pub laying-both : {w a b : List ℕ} {n low high to k : ℕ} {w′ : List ℕ} → n ≡ cells b → k ≡ cells b → Both w a b n low high to k k w′
-    → Laid w to (moved a b (part w low (cells a)) ++ moved a b (part w high (cells a))) (2 * cells b) w′
-laying-both {w} {a} {b} {n} {low} {high} {to} {k} {w′} e f y =
-    filled-laid _ (2 * cells b) refl (y .0 .kept)
+-- all cells
+pub laying-all : {w a b : List ℕ} {n low high to k : ℕ} {w′ : List ℕ} (both : Bool) → n ≡ cells b → k ≡ cells b
+    → Laying w a b n low high to both k k w′
+    → Laid w to (together both (moved a b (part w low (cells a))) (moved a b (part w high (cells a)))) (room both (cells b)) w′
+laying-all {b = b} false e f y =
+    filled-laid _ (cells b) refl (y .kept) (λ k lt. y .lower k (omega arith) ∙ sym (at-tabulate (cells b) _ k lt))
+laying-all {w} {a} {b} {n} {low} {high} {to} {k} {w′} true e f y =
+    filled-laid _ (2 * cells b) refl (y .kept)
     (λ c lt.
     by-order (cells b) c
     (λ le.
-    let i : to + c ≡ to + n + (c - cells b) = omega arith in
-    let j : length first + (c - cells b) ≡ c = omega (arith, long) in
-    ap (at w′) i ∙ laying-all f (y .1) (c - cells b) (omega arith) ∙ sym (getD-append-add first second (c - cells b) 0) ∙ ap (at (first ++ second)) j)
-    (λ less. laying-all f (y .0) c less ∙ sym (List·getD-append first second 0 c (omega (arith, long)))))
+    let o = c - cells b in
+    let i : to + c ≡ to + n + o = omega arith in
+    let j : length first + o ≡ c = omega (arith, long) in
+    ap (at w′) i ∙ y .upper refl o (omega arith) ∙ sym (at-tabulate (cells b) _ o (omega arith))
+    ∙ sym (getD-append-add first second o 0) ∙ ap (at (first ++ second)) j)
+    (λ less.
+    y .lower c (omega arith) ∙ sym (at-tabulate (cells b) _ c less) ∙ sym (List·getD-append first second 0 c (omega (arith, long)))))
   where
     first : List ℕ
     first = moved a b (part w low (cells a))

@@ -9,7 +9,7 @@ ghost use Rattle.rules.specs.Bytes.{pick, at, tabulate};
 ghost use Rattle.rules.specs.Cell.{cells, step, moved};
 ghost use Rattle.tables.specs.Part.{part, Laid, Apart, Shaped};
 ghost use Rattle.tables.specs.Line.{Spread};
-ghost use Rattle.moves.specs.Move.{remapFrom, Runs};
+ghost use Rattle.moves.specs.Move.{remapFrom, Runs, together, room, Moving};
 
 // A table over the places b is made from one over a in runs. A run is the cells that differ in the lowest places
 // only: how many places those are, the cells that they have in b, and those that they have in a.
@@ -109,32 +109,9 @@ fn lay_run(w: &mut [u8], along: bool, from: usize, to: usize, len: usize)
     }
 }
 
-// Run after run, with no division for a cell. One table and two have a loop each, and whoever calls it chooses the
-// runs: the compiler then makes code of their own for runs that are copied and for runs that are filled.
+// Run after run, with no division for a cell. Where a run begins is found once, for one table or for two. Callers give
+// `both` and `along` as constants, each in a call of its own: the compiler then makes a loop for each case.
 fn moved_runs(
-    w: &mut [u8],
-    a: [u8; PLACES],
-    b: [u8; PLACES],
-    n: usize,
-    from: usize,
-    to: usize,
-    run: Run,
-    along: bool,
-)
-    requires { ⌜ Shaped a × Shaped b × (n ≡ cells b) × Runs a b along run × Apart (now w) from (cells a) to (cells b) ⌝ }
-    ensures { λ _. ⌜ Laid (now (w .entry)) to (moved a b (part (now (w .entry)) from (cells a))) (cells b) (now (w .exit)) ⌝ }
-{
-    let len = run.cells;
-    let count = n / len;
-    let mut d: usize = 0;
-    for r in 0..count {
-        lay_run(w, along, from + d, to + len * r, len);
-        d = next(a, b, run.places, r, d, run.first);
-    }
-}
-
-// The same for two tables: where a run begins is found once.
-fn both_runs(
     w: &mut [u8],
     a: [u8; PLACES],
     b: [u8; PLACES],
@@ -142,38 +119,40 @@ fn both_runs(
     low: usize,
     high: usize,
     to: usize,
+    both: bool,
     run: Run,
     along: bool,
 )
-    requires { ⌜ Shaped a × Shaped b × (n ≡ cells b) × Runs a b along run × Apart (now w) low (cells a) to (2 * cells b) × Apart (now w) high (cells a) to (2 * cells b) ⌝ }
-    ensures { λ _. ⌜ Laid (now (w .entry)) to (moved a b (part (now (w .entry)) low (cells a)) ++ moved a b (part (now (w .entry)) high (cells a))) (2 * cells b) (now (w .exit)) ⌝ }
+    requires { ⌜ Moving (now w) a b n low high to both × Runs a b along run ⌝ }
+    ensures { λ _. ⌜ Laid (now (w .entry)) to (together both (moved a b (part (now (w .entry)) low (cells a))) (moved a b (part (now (w .entry)) high (cells a)))) (room both (cells b)) (now (w .exit)) ⌝ }
 {
     let len = run.cells;
     let count = n / len;
     let mut d: usize = 0;
     for r in 0..count {
         lay_run(w, along, low + d, to + len * r, len);
-        lay_run(w, along, high + d, to + n + len * r, len);
+        if both {
+            lay_run(w, along, high + d, to + n + len * r, len);
+        }
         d = next(a, b, run.places, r, d, run.first);
     }
 }
 
-// A table of n cells over the places b, from one over a, in the runs that make the fewer turns: those of equal
-// places, if there are any.
+// A table of n cells over the places b, from one over a.
 pub fn moved(w: &mut [u8], a: [u8; PLACES], b: [u8; PLACES], n: usize, from: usize, to: usize)
     requires { ⌜ Shaped a × Shaped b × (n ≡ cells b) × Apart (now w) from (cells a) to (cells b) ⌝ }
     ensures { λ _. ⌜ Laid (now (w .entry)) to (moved a b (part (now (w .entry)) from (cells a))) (cells b) (now (w .exit)) ⌝ }
 {
     let same = same_run(a, b);
     if 1 < same.cells {
-        moved_runs(w, a, b, n, from, to, same, true);
+        moved_runs(w, a, b, n, from, from, to, false, same, true);
     } else {
         let other = other_run(a, b);
-        moved_runs(w, a, b, n, from, to, other, false);
+        moved_runs(w, a, b, n, from, from, to, false, other, false);
     }
 }
 
-// Two tables over the places b, one behind the other, from two over a.
+// Two tables of n cells over the places b, one behind the other at `to`, from two over a.
 pub fn moved_both(
     w: &mut [u8],
     a: [u8; PLACES],
@@ -188,10 +167,10 @@ pub fn moved_both(
 {
     let same = same_run(a, b);
     if 1 < same.cells {
-        both_runs(w, a, b, n, low, high, to, same, true);
+        moved_runs(w, a, b, n, low, high, to, true, same, true);
     } else {
         let other = other_run(a, b);
-        both_runs(w, a, b, n, low, high, to, other, false);
+        moved_runs(w, a, b, n, low, high, to, true, other, false);
     }
 }
 

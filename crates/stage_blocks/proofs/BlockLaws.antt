@@ -52,17 +52,21 @@ laid-both {w} {w′} {s} {t} {a} {n} e f h l =
 
 -- two tables moved to 8 × c
 module _ {w ks b : List ℕ} {c : ℕ} (r : LimitsRoom w ks b c) where
+  ahead : {a n : ℕ} → a + n ≤ 8 * c → Apart w a n (8 * c) (2 * cells b)
+  ahead h = before _ _ (8 * c) (2 * cells b) h (r .space)
+
   pub lay-both : {low high n : ℕ} → low + cells ks ≤ 8 * c → high + cells ks ≤ 8 * c → n ≡ cells b
       → Shaped ks × Shaped b × (n ≡ cells b) × Apart w low (cells ks) (8 * c) (2 * cells b) × Apart w high (cells ks) (8 * c) (2 * cells b)
-  lay-both hl hh e = (r .own .shaped, r .shaped, e, before _ (cells ks) (8 * c) (2 * cells b) hl (r .space), before _ (cells ks) (8 * c) (2 * cells b) hh (r .space))
+  lay-both hl hh e = (r .own .shaped, r .shaped, e, ahead hl, ahead hh)
 
-  pub both-laid : {w′ : List ℕ} (low high : ℕ) → Laid w (8 * c) (moved ks b (part w low (cells ks)) ++ moved ks b (part w high (cells ks))) (2 * cells b) w′
+  pub both-laid : {w′ : List ℕ} (low high : ℕ)
+      → Laid w (8 * c) (moved ks b (part w low (cells ks)) ++ moved ks b (part w high (cells ks))) (2 * cells b) w′
       → LimitsLaid ks b (stageAt ks w low high .limits) c w w′
   both-laid low high l =
       let parts = laid-both (length-tabulateFrom _ 0 (cells b)) (length-tabulateFrom _ 0 (cells b)) (r .space) l in
       record {
         stage = ap₂ (λ (x y : List ℕ). stageOf b (limitsOf x y)) (parts .0) (parts .1);
-        kept = λ a n h. laid-apart (before a n (8 * c) (2 * cells b) (h .inside) (r .space)) l;
+        kept = λ a n h. laid-apart (ahead (h .inside)) l;
         len = l .len;
       }
 
