@@ -3,7 +3,7 @@ use Prim.Native.Nat.{ℕ, _+_, _*_, _≤_, _<_}
 use mathlib.Core.Path.{_≡_, refl, sym, _∙_, ap, subst}
 use mathlib.Core.List.{List, []}
 use mathlib.Core.Logic.{_⊎_, inl, inr, ⊎-elim}
-use native.Mathlib.Nat.{zero-add, add-zero}
+use native.Mathlib.Nat.{zero-add}
 use native.Mathlib.Omega.{arith}
 use lib.ListN.{length}
 use Rattle.rules.specs.Bytes.{at}
@@ -14,7 +14,7 @@ use Rattle.laws.proofs.TableLaws.{length-tabulateFrom}
 use Rattle.laws.proofs.TestLaws.{by-order}
 use Rattle.tables.specs.Part.{part, Laid, Apart, Two}
 use Rattle.tables.proofs.PartLaws.{part-at, part-same, laid-as, laid-part, laid-apart}
-use Rattle.tables.proofs.LendLaws.{lent, lent-length, lent-at, back, laid-back}
+use Rattle.tables.proofs.LendLaws.{lent, lent-length, lent-at, back, laid-back, laid-alone}
 use Rattle.rows.specs.Grades.{Reads}
 use Rattle.grouping.specs.Growing.{Held, Kept, Space, Started}
 
@@ -86,15 +86,11 @@ module _ (w : List ℕ) (a k to n : ℕ) (h : a + k ≤ length w) (g : to + n �
       same : (c : ℕ) → c < cells ks → at (part (lent a k w) 0 n) c ≡ at (part w a (cells ks)) c
       same c lt = part-at (lent a k w) 0 n c (omega arith) ∙ lent-at a k w (0 + c) (omega arith) ∙ ap (λ (j : ℕ). at w (a + j)) (zero-add c) ∙ sym (part-at w a (cells ks) c lt)
 
--- the same where they are all that is lent
-module _ (w : List ℕ) (a n : ℕ) (h : a + n ≤ length w) where
-  pub in-place-reads : Reads [] (lent a n w) 0 0 n
-  in-place-reads = lent-reads w a n 0 n h (omega arith) (inl refl)
-
-  pub in-place : (ks : List ℕ) (i : ℕ) {v : List ℕ} → n ≡ cells ks → Laid (lent a n w) 0 (leastOver ks (singleton i) (part (lent a n w) 0 n)) n v
-      → Laid w a (leastOver ks (singleton i) (part w a (cells ks))) (cells ks) (back a n w v)
-  in-place ks i {v} e l =
-      subst (λ (b : ℕ). Laid w b (leastOver ks (singleton i) (part w a (cells ks))) (cells ks) (back a n w v)) (add-zero a) (lent-least w a n 0 n h (omega arith) ks i e l)
+-- in their place, where they are all that is lent
+pub in-place : (w : List ℕ) (a n : ℕ) → a + n ≤ length w → (ks : List ℕ) (i : ℕ) {v : List ℕ} → n ≡ cells ks
+    → Laid (lent a n w) 0 (leastOver ks (singleton i) (part (lent a n w) 0 n)) n v → Laid w a (leastOver ks (singleton i) (part w a (cells ks))) (cells ks) (back a n w v)
+in-place w a n h ks i {v} e l =
+    subst (λ (c : ℕ). Laid w a (leastOver ks (singleton i) (part w a c)) c (back a n w v)) e (laid-alone w a n h (leastOver ks (singleton i)) l)
 
 -- two tables side by side
 pub beside : {w : List ℕ} {a n m : ℕ} → n ≡ m → a + 2 * n ≤ length w → Two w a (a + n) m

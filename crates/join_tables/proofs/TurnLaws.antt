@@ -20,7 +20,7 @@ use Rattle.tables.specs.Part.{part, Laid, Two, Shaped}
 use Rattle.tables.specs.Line.{best}
 use Rattle.tables.proofs.PartLaws.{part-at, laid-then, laid-as}
 use Rattle.tables.proofs.LineLaws.{best-bound}
-use Rattle.tables.proofs.LendLaws.{lent, lent-part, lent-length, front, front-length, front-at, back, laid-back}
+use Rattle.tables.proofs.LendLaws.{lent, lent-length, front, front-length, front-at, back, laid-back, laid-alone}
 use Rattle.rows.specs.Grades.{source, Reads}
 use Rattle.rows.proofs.GradesLaws.{there, from-lent}
 use Rattle.join_tables.specs.Parts.{side, turned, Below, Holds, Placed, Within, Exchanging, Exchanged}
@@ -116,9 +116,6 @@ module _ {ks : List ℕ} (shaped : Shaped ks) {n : ℕ} (e : n ≡ cells ks) (a 
   some : 1 ≤ n
   some = omega (arith, cells-pos ks (shaped .some))
 
-  pub reads-part : Reads [] (lent a n w) 0 0 n
-  reads-part = let k = lent-length a n w room in record { src = omega arith; dst = omega arith; aside = inl refl }
-
   pub reads-lent : (x : List ℕ) → n ≤ length x → Reads (front n x) (lent a n w) 0 0 n
   reads-lent x le = let k = front-length n x le in from-lent (front n x) (lent a n w) (omega (arith, some)) (omega arith) (omega (arith, lent-length a n w room))
 
@@ -129,7 +126,7 @@ module _ {ks : List ℕ} (shaped : Shaped ks) {n : ℕ} (e : n ≡ cells ks) (a 
         laid-as (over-same (best-bound greatest) ks set (part u 0 n) t (λ c h. part-at u 0 n c (omega arith) ∙ ap (at u) (zero-add c) ∙ q c (omega arith))) (rw (add-zero a) at k)
 
     pub over-part : Laid (lent a n w) 0 (over (best greatest) ks set (part (lent a n w) 0 n)) n v → Laid w a (over (best greatest) ks set (part w a n)) n (back a n w v)
-    over-part = over-back (lent a n w) (part w a n) (λ c h. ap (λ (y : List ℕ). at y c) (lent-part a n w))
+    over-part = laid-alone w a n room (over (best greatest) ks set)
 
     pub over-lent : (x : List ℕ) → n ≤ length x → Laid (lent a n w) 0 (over (best greatest) ks set (part (source (front n x) (lent a n w)) 0 n)) n v
         → Laid w a (over (best greatest) ks set x) n (back a n w v)

@@ -2,20 +2,17 @@
 use Prim.Native.Nat.{ℕ, _+_, _-_, _*_, _≤_, _<_}
 use mathlib.Core.Path.{_≡_, refl, sym, _∙_, ap, ap₂, subst}
 use mathlib.Core.Bool.{Bool}
-use mathlib.Core.List.{List, []}
+use mathlib.Core.List.{List}
 use mathlib.Core.Logic.{inl, inr}
-use native.Mathlib.Nat.{add-zero}
 use native.Mathlib.Omega.{arith}
 use lib.Dec.{ltb}
 use lib.ListN.{length}
-use lib.Seq.{take-all}
 use Rattle.rules.specs.Bytes.{pick, at, tabulate}
 use Rattle.rules.specs.Cell.{singleton, leastOver, greatestOver}
 use Rattle.laws.proofs.TableLaws.{at-tabulate}
 use Rattle.tables.specs.Part.{part, Laid, Two}
-use Rattle.tables.proofs.LendLaws.{lent, lent-part, lent-length, back, laid-back}
+use Rattle.tables.proofs.LendLaws.{lent, back, laid-alone}
 use Rattle.tables.proofs.PartLaws.{part-at, part-length, laid-as, laid-then, laid-part, Filled, read-part}
-use Rattle.rows.specs.Grades.{Reads}
 use Rattle.masks.specs.Masks.{aboveLeast, belowGreatest}
 use Rattle.mask_making.specs.Making.{Space}
 use Rattle.mask_making.specs.Marking.{less, marked, AllHave, HaveBit, Marked}
@@ -36,28 +33,13 @@ module _ {w : List ℕ} {to n x : ℕ} {f : ℕ → ℕ} {w′ : List ℕ} (l : 
       → at w′ (to + x) - r ≡ marked w low high to b x
   mark-next b r p q e = ap₂ (λ (s k : ℕ). s - k) stays (e ∙ ap₂ (λ (y z : ℕ). pick (ltb y z) 0 b) (read q) (read p))
 
--- the n bytes from a on, lent alone
-module _ (w : List ℕ) (a n : ℕ) (h : a + n ≤ length w) where
-  pub lent-reads : Reads [] (lent a n w) 0 0 n
-  lent-reads = record { src = omega (arith, lent-length a n w h); dst = omega (arith, lent-length a n w h); aside = inl refl }
-
-  lent-whole : part (lent a n w) 0 n ≡ part w a n
-  unfolding part
-  lent-whole = take-all n (lent a n w) (omega (arith, lent-length a n w h)) ∙ lent-part a n w
-
-  lent-laid : {v : List ℕ} (f : List ℕ → List ℕ) → Laid (lent a n w) 0 (f (part (lent a n w) 0 n)) n v
-      → Laid w a (f (part w a n)) n (back a n w v)
-  lent-laid {v} f l =
-      laid-as (ap f lent-whole)
-      (subst (λ (b : ℕ). Laid w b (f (part (lent a n w) 0 n)) n (back a n w v)) (add-zero a) (laid-back a n h (omega arith) l))
-
 -- a copy, replaced by what is made of it
 pub copied : (f : List ℕ → List ℕ) {w : List ℕ} {from to n : ℕ} {w′ v : List ℕ} → Two w from to n → Laid w to (part w from n) n w′
     → Laid (lent to n w′) 0 (f (part (lent to n w′) 0 n)) n v → Laid w to (f (part w from n)) n (back to n w′ v)
 copied f {w} {from} {to} {n} {w′} p l m =
     let d = p .dst in
     let e = l .len in
-    laid-as (ap f (laid-part l d (part-length w from n (p .src)))) (laid-then l (lent-laid w′ to n (omega arith) f m))
+    laid-as (ap f (laid-part l d (part-length w from n (p .src)))) (laid-then l (laid-alone w′ to n (omega arith) f m))
 
 -- of parts of n bytes, one that is written, and another before it or behind it
 module _ {w : List ℕ} {n : ℕ} (room : 5 * n ≤ length w) where

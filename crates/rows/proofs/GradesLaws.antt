@@ -10,6 +10,7 @@ use lib.ListN.{length}
 use Rattle.rules.specs.Bytes.{at, tabulate}
 use Rattle.tables.specs.Part.{part, Laid, Two}
 use Rattle.tables.specs.Line.{best, Line}
+use Rattle.tables.proofs.LendLaws.{lent, lent-length}
 use Rattle.tables.proofs.PartLaws.{part-at}
 use Rattle.rows.specs.Grades.{source, Aside, Room, Reads}
 
@@ -38,6 +39,10 @@ src-there lent w {from} {m} r ne = subst (λ (v : List ℕ). from + m ≤ length
 pub from-lent : (lent w : List ℕ) {from m to n : ℕ} → 0 < length lent → from + m ≤ length lent → to + n ≤ length w → Room lent w from m to n
 from-lent [] w some h g = absurd (omega arith)
 from-lent (x ∷ xs) w some h g = record { src = h; dst = g; aside = tt }
+
+-- a part that is lent alone has grades and answers at the same bytes
+pub reads-alone : (w : List ℕ) (a n : ℕ) → a + n ≤ length w → Reads [] (lent a n w) 0 0 n
+reads-alone w a n h = record { src = omega (arith, lent-length a n w h); dst = omega (arith, lent-length a n w h); aside = inl refl }
 
 -- in one slice, grades that do not start where the answers do lie apart from them
 pub apart : {lent w : List ℕ} {from to n : ℕ} → Reads lent w from to n → length lent ≡ 0 → (from ≡ to → ⊥) → Two w from to n

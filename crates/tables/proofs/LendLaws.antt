@@ -1,15 +1,16 @@
 -- A part of a buffer that is lent on, the k bytes from a on, and the buffer when it comes back.
 use Prim.Native.Nat.{ℕ, _+_, _-_, _≤_, _<_}
-use mathlib.Core.Path.{_≡_, sym, _∙_, ap}
+use mathlib.Core.Path.{_≡_, sym, _∙_, ap, subst}
 use mathlib.Core.List.{List, _++_}
+use native.Mathlib.Nat.{add-zero}
 use native.Mathlib.Omega.{arith}
 use borrow.Rule.Slice.PartMut.{putMid, postOf, same-len-mid}
 use lib.ListN.{length, take, drop, length-take, List·getD-append}
-use lib.Seq.{getD-take, getD-drop, getD-append-add}
+use lib.Seq.{take-all, getD-take, getD-drop, getD-append-add}
 use Rattle.rules.specs.Bytes.{at}
 use Rattle.laws.proofs.TestLaws.{by-order}
 use Rattle.tables.specs.Part.{part, Laid}
-use Rattle.tables.proofs.PartLaws.{part-length}
+use Rattle.tables.proofs.PartLaws.{part-length, laid-as}
 
 -- what is lent, as the language has it
 abbrev pub lent : ℕ → ℕ → List ℕ → List ℕ
@@ -84,3 +85,14 @@ laid-back a k {w} {to} {t} {n} {v} h g l =
 
     outside : (j : ℕ) {i : ℕ} → a + i ≡ j → i < k → at v i ≡ at (lent a k w) i → at (back a k w v) j ≡ at w j
     outside j {i} e lt q = sym (ap (at (back a k w v)) e) ∙ inside i lt ∙ q ∙ lent-at a k w i lt ∙ ap (at w) e
+
+-- the n bytes from a on, lent alone: what is made of them, in their place
+module _ (w : List ℕ) (a n : ℕ) (h : a + n ≤ length w) where
+  lent-whole : part (lent a n w) 0 n ≡ part w a n
+  unfolding part
+  lent-whole = take-all n (lent a n w) (omega (arith, lent-length a n w h)) ∙ lent-part a n w
+
+  pub laid-alone : (f : List ℕ → List ℕ) {v : List ℕ} → Laid (lent a n w) 0 (f (part (lent a n w) 0 n)) n v → Laid w a (f (part w a n)) n (back a n w v)
+  laid-alone f {v} l =
+      laid-as (ap f lent-whole)
+      (subst (λ (b : ℕ). Laid w b (f (part (lent a n w) 0 n)) n (back a n w v)) (add-zero a) (laid-back a n h (omega arith) l))

@@ -1,6 +1,7 @@
 -- `join_tables::over_part` meets its contract.
 use borrow.Author.Needs.{needs}
-use Rattle.join_tables.proofs.TurnLaws.{reads-part, over-part}
+use Rattle.rows.proofs.GradesLaws.{reads-alone}
+use Rattle.join_tables.proofs.TurnLaws.{over-part}
 use Rattle.join_tables.proofs.over_part.Statement.{statement}
 use Rattle.join_tables.proofs.over_part.Tie as tie
 
@@ -20,7 +21,7 @@ part-over-set-end : tie.Need-part-over-set-end
 part-over-set-end c = search needs
 
 over-set-requires : tie.Need-over-set-requires
-over-set-requires c κs = let b = c .before .before .before in (b .pre .1, b .pre .0, reads-part (b .pre .0) (b .pre .1) (b .args .to) (b .args .w .now) (b .pre .2))
+over-set-requires c κs = let b = c .before .before .before in (b .pre .1, b .pre .0, reads-alone (b .args .w .now) (b .args .to) (b .args .n) (b .pre .2))
 
 same-length : tie.Need-same-length
 same-length c = search needs

@@ -3,7 +3,8 @@ use native.Mathlib.Omega.{arith}
 use borrow.Author.Needs.{needs}
 use Rattle.rules.specs.Cell.{singleton, over}
 use Rattle.tables.specs.Line.{best}
-use Rattle.mask_making.proofs.MarkLaws.{lent-reads, copied}
+use Rattle.rows.proofs.GradesLaws.{reads-alone}
+use Rattle.mask_making.proofs.MarkLaws.{copied}
 use Rattle.mask_making.proofs.extreme_over.Statement.{statement}
 use Rattle.mask_making.proofs.extreme_over.Tie as tie
 
@@ -32,7 +33,7 @@ over-one-requires c κs =
     let s = b .args in
     let p = b .pre .3 .dst in
     let e = l .copy .ensures .len in
-    (b .pre .0, b .pre .2, b .pre .1, lent-reads _ (s .to) (s .n) (omega arith))
+    (b .pre .0, b .pre .2, b .pre .1, reads-alone _ (s .to) (s .n) (omega arith))
 
 same-length : tie.Need-same-length
 same-length c = search needs

@@ -6,7 +6,8 @@ use native.Mathlib.Omega.{arith}
 use Rattle.rules.specs.Cell.{cells, singleton, leastOver}
 use Rattle.tables.specs.Part.{part, Laid}
 use Rattle.tables.proofs.LendLaws.{back}
-use Rattle.grouping.proofs.KeptLaws.{lent-reads, lent-least, in-place-reads, in-place, beside, started}
+use Rattle.rows.proofs.GradesLaws.{reads-alone}
+use Rattle.grouping.proofs.KeptLaws.{lent-reads, lent-least, in-place, beside, started}
 use borrow.Author.Needs.{needs}
 use Rattle.grouping.proofs.growing.start_sets.Statement.{statement}
 use Rattle.grouping.proofs.growing.start_sets.Tie as tie
@@ -65,7 +66,7 @@ over-one-requires-2 c κs =
     let s = b .args in
     let p = b .pre in
     let e = over-j (c .before .before .before) .len in
-    (p .0, p .2, p .3, in-place-reads (back (s .high) (2 * s .n) (s .w .now) (c .before .before .before .before .over-one .last .1 .0)) (s .high) (s .n) (omega arith))
+    (p .0, p .2, p .3, reads-alone (back (s .high) (2 * s .n) (s .w .now) (c .before .before .before .before .over-one .last .1 .0)) (s .high) (s .n) (omega arith))
 
 same-length : tie.Need-same-length
 same-length c = search needs

@@ -2,7 +2,8 @@
 use mathlib.Core.Path.{sym, _∙_}
 use native.Mathlib.Omega.{arith}
 use Rattle.grouping.proofs.GrowLaws.{tried-yes, tried-no}
-use Rattle.grouping.proofs.KeptLaws.{in-place-reads, in-place}
+use Rattle.rows.proofs.GradesLaws.{reads-alone}
+use Rattle.grouping.proofs.KeptLaws.{in-place}
 use borrow.Author.Needs.{needs}
 use Rattle.grouping.proofs.growing.try_add.Statement.{statement}
 use Rattle.grouping.proofs.growing.try_add.Tie as tie
@@ -31,7 +32,7 @@ over-one-requires c κs =
     let s = b .args in
     let e = b .pre .0 .count in
     let d = b .pre .1 .second .dst in
-    (b .pre .0 .place, e, b .pre .1 .shaped, in-place-reads (s .w .now) (s .grow) (s .n) (omega arith))
+    (b .pre .0 .place, e, b .pre .1 .shaped, reads-alone (s .w .now) (s .grow) (s .n) (omega arith))
 
 same-length : tie.Need-same-length
 same-length c = search needs
