@@ -1,12 +1,13 @@
 -- The record of a stage with no condition left or one, and a function moved to a stage's own places.
-use Prim.Native.Nat.{ℕ, _*_, _≤_, _<_}
+use Prim.Native.Nat.{ℕ, _+_, _*_, _≤_, _<_}
 use mathlib.Core.Path.{_≡_, refl, sym, _∙_, ap, ap₂, subst}
-use mathlib.Core.List.{List}
+use mathlib.Core.List.{List, [], _∷_}
 use mathlib.Core.Logic.{inl, inr}
 use native.Mathlib.Omega.{arith}
 use lib.ListN.{length}
 use Rattle.rules.specs.Bytes.{at, tabulate}
 use Rattle.rules.specs.Cell.{Positive, cells, width, remap, moved}
+use Rattle.rules.specs.Network.{constant, literal}
 use Rattle.rules.specs.Tree.{Tree, fixed, lookup}
 use Rattle.rules.specs.Stage.{Stage, leftTree}
 use Rattle.laws.proofs.CellLaws.{cells-pos, cell-value}
@@ -17,10 +18,20 @@ use Rattle.places.specs.declared.sets.Condition.{Condition}
 use Rattle.places.specs.Conditions.{IsLowest}
 use Rattle.tables.specs.Part.{part, Shaped, Laid, Apart}
 use Rattle.tables.proofs.PartLaws.{part-at, part-length, laid-part}
+use Rattle.network_records.specs.Putting.{Put}
 use Rattle.stage_blocks.specs.Blocks.{stageOf}
 use Rattle.stage_steps.specs.declared.gates.Extent.{Extent}
 use Rattle.stage_steps.specs.Ends.{LeafPut, SpreadRoom, SpreadLaid}
 use Rattle.stage_steps.specs.Extents.{TreePut}
+use Rattle.stage_steps.proofs.ExtentLaws.{tree-one}
+
+-- a constant where there is no condition, a literal of the one that there is
+module _ {low : Condition} {w net net′ : List ℕ} {r : ℕ} where
+  pub leaf-none : 8 ≤ low .number → Put net r (constant (at w 0) ∷ []) net′ → LeafPut low w net r (record { next = r + 1; depth = 0 }) net′
+  leaf-none h p = record { none = λ l. tree-one (fixed (at w 0)) refl refl p; one = λ l. absurd (omega arith) }
+
+  pub leaf-one : low .number < 8 → Put net r (literal (low .number) (tabulate (low .values) (at w)) ∷ []) net′ → LeafPut low w net r (record { next = r + 1; depth = 0 }) net′
+  leaf-one h p = record { none = λ l. absurd (omega arith); one = λ l. tree-one (lookup (low .number) (tabulate (low .values) (at w))) refl refl p }
 
 -- step 2's record is the tree of the stage with no condition left or one, whatever the upper grades, and whatever network other stages have
 module _ (ks w : List ℕ) {low : Condition} (shaped : Shaped ks) (places : length ks ≡ 8) (narrow : width ks < 2) (is : IsLowest ks low) where
