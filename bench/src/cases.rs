@@ -292,8 +292,8 @@ fn compiled() -> Vec<(String, Option<&'static str>, OwnedTable)> {
         ("8 8 8 2, 90 % don't-cares, m 4", sparse(&[8, 8, 8, 2], 4, 0)),
         ("8 2⁷, 90 % not listed, m 4", unlisted(&LARGEST, 4)),
         ("8 8 8 2, 90 % not listed, m 4", unlisted(&[8, 8, 8, 2], 4)),
-        ("8 2⁷, drawn table 21,194, m 7", drawn(21_194)),
-        ("4 4 2⁶, drawn table 34,189, m 14", drawn(34_189)),
+        ("8 2⁷, drawn table 307,581, m 16", drawn(307_581)),
+        ("4 4 2⁶, drawn table 12,552, m 2", drawn(12_552)),
     ]
     .map(|(name, table)| (name.to_string(), None, table))
     .to_vec();
@@ -311,7 +311,7 @@ const FORECAST: [&str; 8] = [
     "8 8 8 2 that joins",
     "monks 2",
     "8 2⁷, 90 % don't-cares, m 4",
-    "8 2⁷, drawn table 21,194, m 7",
+    "8 2⁷, drawn table 307,581, m 16",
     "2⁴ parity",
     "2⁶ random, m 4",
     "8 2⁷ parity",
