@@ -31,7 +31,7 @@ use Rattle.stage_choice.specs.declared.Choice.{Choice}
 use Rattle.stage_choice.specs.declared.Choice.the-variants.{Leaf, Split, Join}
 use Rattle.stage_choice.specs.Choosing.{Chosen}
 use Rattle.stage_plan.specs.declared.Plan.{Plan}
-use Rattle.stage_plan.specs.Planning.{Ordered, Learnt, bothFull, keepsLast, Leaves, Does, Planned, Ends}
+use Rattle.stage_plan.specs.Planning.{Ordered, Learnt, bothFull, keepsLast, Leaves, Doing, Planned, Ends}
 
 proper-ready : {m : ℕ} {x : Stage} → Shaped (x .ks) → Proper m x → Ready m x
 proper-ready s h = record { grades = h .some; pos = s .some; good = record { room = h .ordered; top = h .top } }
@@ -80,10 +80,10 @@ module _ {ks w : List ℕ} {n : ℕ} {low : Condition} (room : Room w ks n) (is 
   pub wide-here : (low .values ≡ n → ⊥) → 2 ≤ width ks
   wide-here ne = wide-left ks (room .shaped .some) (λ e. ne (is .values ∙ e ∙ sym (room .own)))
 
-  pub does-leaf : {m : ℕ} → low .values ≡ n → Does m (frontStage ks w) w Leaf w
+  pub does-leaf : {m : ℕ} → low .values ≡ n → Doing m (frontStage ks w) w Leaf w
   does-leaf e = record { finds = record { narrow = narrow-here e; stage = refl }; len = refl }
 
-pub does-chosen : {m : ℕ} (ks w : List ℕ) (r : Choice) {w′ : List ℕ} → 2 ≤ width ks → Known m ks w → Chosen m (frontStage ks w) w r w′ → Does m (frontStage ks w) w r w′
+pub does-chosen : {m : ℕ} (ks w : List ℕ) (r : Choice) {w′ : List ℕ} → 2 ≤ width ks → Known m ks w → Chosen m (frontStage ks w) w r w′ → Doing m (frontStage ks w) w r w′
 does-chosen ks w Leaf wide k c = absurd (c .is)
 does-chosen {m} ks w Split wide k c =
     record {
@@ -93,9 +93,9 @@ does-chosen {m} ks w Split wide k c =
 does-chosen ks w (Join gate of) wide k c = record { finds = record { wide = wide; is = c .is; tables = c .tables }; len = c .len }
 
 -- the same of an equal stage, and of a buffer that was as long before
-pub does-same : {m : ℕ} {y z : Stage} {v w : List ℕ} {r : Choice} {w′ : List ℕ} → y ≡ z → length v ≡ length w → Does m y v r w′ → Does m z w r w′
+pub does-same : {m : ℕ} {y z : Stage} {v w : List ℕ} {r : Choice} {w′ : List ℕ} → y ≡ z → length v ≡ length w → Doing m y v r w′ → Doing m z w r w′
 does-same {m} {y} {z} {v} {w} {r} {w′} e l d =
-    subst (λ (x : Stage). Does m x w r w′) e (record { finds = d .finds; len = d .len ∙ l })
+    subst (λ (x : Stage). Doing m x w r w′) e (record { finds = d .finds; len = d .len ∙ l })
 
 -- conditions were dropped
 module _ {m : ℕ} {ks w : List ℕ} {n : ℕ} (room : Room w ks n) (proper : Proper m (frontStage ks w)) {l w₁ : List ℕ} (t : Turned left ks w l w₁) where
@@ -123,13 +123,13 @@ module _ {m : ℕ} {ks w : List ℕ} {n : ℕ} (room : Room w ks n) (proper : Pr
       let r = left-ready m (frontStage ks w) (proper-ready (room .shaped) proper) in
       subst (Proper m) (sym (t .stage)) (record { some = r .grades; ordered = r .good .room; top = r .good .top })
 
-  pub left-planned : {k : ℕ} {low : Condition} {r : Choice} {w′ : List ℕ} → k ≡ cells l → IsLowest l low → Does m (frontStage l w₁) w₁ r w′
+  pub left-planned : {k : ℕ} {low : Condition} {r : Choice} {w′ : List ℕ} → k ≡ cells l → IsLowest l low → Doing m (frontStage l w₁) w₁ r w′
       → Planned m ks w (record { places = l; cells = k; low = low; choice = r }) w′
   left-planned e is d = record { places = places; own = e; lowest = is; does = does-same (t .stage) (t .len) d }
 
 -- none was
 module _ {m : ℕ} {ks w : List ℕ} {n : ℕ} {low : Condition} (room : Room w ks n) (is : IsLowest ks low) (none : left (frontStage ks w) ≡ frontStage ks w) where
-  pub planned : {r : Choice} {w′ : List ℕ} → Does m (frontStage ks w) w r w′ → Planned m ks w (record { places = ks; cells = n; low = low; choice = r }) w′
+  pub planned : {r : Choice} {w′ : List ℕ} → Doing m (frontStage ks w) w r w′ → Planned m ks w (record { places = ks; cells = n; low = low; choice = r }) w′
   planned d = record { places = ap (λ (z : Stage). z .ks) (sym none); own = room .own; lowest = is; does = does-same (sym none) refl d }
 
 -- what the masks of a stage tell

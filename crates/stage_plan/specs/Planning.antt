@@ -58,7 +58,7 @@ Finds m y Leaf w = Leaves y w
 Finds m y Split w = Splitting m y w
 Finds m y (Join gate of) w = Joining gate m y (of .s) (of .t) w
 
-pub record Does (m : ℕ) (y : Stage) (w : List ℕ) (r : Choice) (w′ : List ℕ) : Type 0 where
+pub record Doing (m : ℕ) (y : Stage) (w : List ℕ) (r : Choice) (w′ : List ℕ) : Type 0 where
   pub finds : Finds m y r w′
   pub len : length w′ ≡ length w
 
@@ -67,7 +67,7 @@ pub record Planned (m : ℕ) (ks w : List ℕ) (r : Plan) (w′ : List ℕ) : Ty
   pub places : r .places ≡ left (frontStage ks w) .ks
   pub own : r .cells ≡ cells (r .places)
   pub lowest : IsLowest (r .places) (r .low)
-  pub does : Does m (left (frontStage ks w)) w (r .choice) w′
+  pub does : Doing m (left (frontStage ks w)) w (r .choice) w′
 
 -- the same whatever the number of grades
 pub record Ends (ks w : List ℕ) (r : Plan) (w′ : List ℕ) : Type 0 where

@@ -14,7 +14,7 @@ ghost use Rattle.rules.specs.Cell.{width};
 ghost use Rattle.places.specs.Conditions.{IsLowest};
 ghost use Rattle.masks.specs.Masks.{Known};
 ghost use Rattle.stage_drops.specs.Working.{Room, frontStage, Proper};
-ghost use Rattle.stage_plan.specs.Planning.{Ordered, Learnt, bothFull, keepsLast, Does, Ends, Planned};
+ghost use Rattle.stage_plan.specs.Planning.{Ordered, Learnt, bothFull, keepsLast, Doing, Ends, Planned};
 
 // What is left of a stage: its places, how many cells these have, the lowest condition, and what the stage does.
 pub struct Plan {
@@ -49,7 +49,7 @@ fn both_full(w: &[u8], n: usize, k: usize) -> bool
 // What the stage at the front does, whose conditions are left.
 fn choose_left(w: &mut [u8], ks: [u8; PLACES], m: u8, n: usize, low: Condition) -> Choice
     requires { ⌜ Room (now w) ks n × Proper m (frontStage ks (now w)) × IsLowest ks low ⌝ }
-    ensures { λ r. ⌜ Does m (frontStage ks (now (w .entry))) (now (w .entry)) r (now (w .exit)) ⌝ }
+    ensures { λ r. ⌜ Doing m (frontStage ks (now (w .entry))) (now (w .entry)) r (now (w .exit)) ⌝ }
 {
     if low.values == n {
         return Choice::Leaf;
