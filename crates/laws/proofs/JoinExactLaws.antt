@@ -163,6 +163,9 @@ module _ (ks : List ℕ) (m s t : ℕ) (l : Limits) (g : Good ks m l) where
       return : (a p : ℕ → ℕ) → Pair Max ks m s t x p b₁ → ((c : ℕ) → c < cells ks → p c + a c ≡ m - 1) → Blind ks t a → Pair Min ks m s t l a (back ks m b₁)
       return a p w e ba = pair-back ks m s t l g a (back ks m b₁) p b₁ w e (λ c hc. omega (arith, w .second-grades c hc)) ba (blind-back ks m s b₁ (w .second-blind))
 
+pub good-exact : (op : Gate) (ks : List ℕ) (m s t : ℕ) (l : Limits) → Good ks m l → JoinExact op ks m s t l
+good-exact Max ks m s t l g = max-exact ks m s t l g
+good-exact Min ks m s t l g = min-exact ks m s t l g
+
 pub join-exact : (op : Gate) (ks : List ℕ) (m s t : ℕ) (l : Limits) → Table ks m l → JoinExact op ks m s t l
-join-exact Max ks m s t l w = max-exact ks m s t l (record { room = w .ordered; top = w .top })
-join-exact Min ks m s t l w = min-exact ks m s t l (record { room = w .ordered; top = w .top })
+join-exact op ks m s t l w = good-exact op ks m s t l (record { room = w .ordered; top = w .top })

@@ -14,6 +14,7 @@ pub mod GateLaws
 pub mod GroupLaws
 pub mod JoinExactLaws
 pub mod JoinLaws
+pub mod KeepLaws
 pub mod LastLaws
 pub mod LineLaws
 pub mod NumberLaws
@@ -29,3 +30,4 @@ pub mod SizeLaws
 pub mod StageLaws
 pub mod TreeLaws
 pub mod UnionLaws
+pub mod WeakLaws

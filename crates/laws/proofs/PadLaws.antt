@@ -7,10 +7,10 @@ use native.Mathlib.Nat.{mod-one, not-suc-le-zero}
 use native.Mathlib.Omega.{arith}
 use lib.Dec.{eqb, leb, ltb}
 use lib.ListN.{replicate}
-use Rattle.rules.specs.Bytes.{pick, at, tabulate, all}
-use Rattle.rules.specs.Cell.{cells, card, width, lowest, value, cell, has, without, moved, agreeOutside, over, overTo}
+use Rattle.rules.specs.Bytes.{pick, at, tabulate, all, some}
+use Rattle.rules.specs.Cell.{cells, card, width, lowest, value, cell, has, singleton, without, moved, agreeOutside, over, overTo}
 use Rattle.rules.specs.Limits.{Limits}
-use Rattle.rules.specs.Join.{above, uA, uB, lA, lB, maxExists, complement, exchangeFor, exchangeBlockFor, joinExists, firstLimits, secondLimits}
+use Rattle.rules.specs.Join.{above, uA, uB, lA, lB, maxExists, complement, exchangeFor, exchangeBlockFor, joinExists, firstLimits, secondLimits, maxCounts, weakCounts}
 use Rattle.rules.specs.declared.Gate.{Gate}
 use Rattle.rules.specs.declared.Gate.the-variants.{Min, Max}
 use Rattle.laws.proofs.TestLaws.{pick-ok}
@@ -146,3 +146,12 @@ module _ (p : ℕ) where
       exchangeFor-more op ks m (lims (lB (more ks) s t (x .lower) (x .upper) (exchangeBlockFor op (more ks) m g)) (uB (more ks) s t (x .lower) (x .upper)))
       ∙ ap₂ (λ (x : Limits) (h : List ℕ). exchangeFor op ks m (lims (lB (more ks) s t (x .lower) (x .upper) h) (uB (more ks) s t (x .lower) (x .upper)))) (exchangeFor-more op ks m l) (block-more op ks m g)
       ∙ ap₂ (λ (a b : List ℕ). exchangeFor op ks m (lims a b)) (lB-more ks s t (exchangeFor op ks m l .lower) (exchangeFor op ks m l .upper) (exchangeBlockFor op ks m g)) (over-more min ks s (exchangeFor op ks m l .upper))
+
+  -- weak joins
+  counts-more : (ks : List ℕ) (i : ℕ) (l u : List ℕ) → maxCounts (more ks) i l u ≡ maxCounts ks i l u
+  counts-more ks i l u =
+      ap₂ (λ (n : ℕ) (b : List ℕ). some n (λ c. ltb 0 (at l c) && leb (at l c) (at b c))) (cells-more ks) (over-more min ks (singleton i) u)
+
+  pub weak-more : (op : Gate) (ks : List ℕ) (m i : ℕ) (l : Limits) → weakCounts op (more ks) m i l ≡ weakCounts op ks m i l
+  weak-more op ks m i l =
+      ap (λ (x : Limits). maxCounts (more ks) i (x .lower) (x .upper)) (exchangeFor-more op ks m l) ∙ counts-more ks i (exchangeFor op ks m l .lower) (exchangeFor op ks m l .upper)

@@ -1,7 +1,7 @@
 -- The network of a shape and of the padded shape are one.
 use Prim.Native.Nat.{ℕ, zero, suc, _+_, _-_, _*_, _≤_, min, max}
 use mathlib.Core.Path.{_≡_, refl, _∙_, ap, ap₂, fun-ext}
-use mathlib.Core.Bool.{Bool, true, false, not, cond, _&&_}
+use mathlib.Core.Bool.{Bool, true, false, not, cond, _&&_, _||_}
 use mathlib.Core.List.{List, [], _∷_}
 use native.Mathlib.Nat.{le-refl, suc-add, zero-add}
 use native.Mathlib.Omega.{arith}
@@ -10,14 +10,15 @@ use lib.ListN.{length, replicate, length-append, length-replicate}
 use Rattle.rules.specs.Bytes.{pick, at, tabulate, all, numbersFrom}
 use Rattle.rules.specs.Cell.{cells, card, present, width, lowest, has, singleton, without, moved}
 use Rattle.rules.specs.Limits.{Limits, each}
-use Rattle.rules.specs.Join.{joinExists, firstLimits, secondLimits}
-use Rattle.rules.specs.Tree.{Tree, lookup, gated, treeGrade}
-use Rattle.rules.specs.Stage.{Stage, outside, computed, merged, fits, dropOne, drops, left, Grouping, none, sets, pairWith, firstPair, addCondition, grow, grouping, groups, Choice, split, joining, choose, chosen, firstStage, secondStage, cofactorStage, selector, joinTree, splitPart, splitTo, choiceTree, leftTree, stageTree, wholeTable, compiled}
+use Rattle.rules.specs.Join.{joinExists, firstLimits, secondLimits, weakCounts}
+use Rattle.rules.specs.Tree.{Tree, lookup, gated, treeGrade, size}
+use Rattle.rules.specs.Stage.{Stage, outside, computed, merged, fits, dropOne, drops, left, Grouping, none, sets, pairWith, firstPair, addCondition, grow, grouping, groups, Choice, split, joining, choose, chosen, Weak, nowhere, weakly, firstWeak, weakFound, tried, firstStage, secondStage, cofactorStage, selector, joinTree, splitPart, splitTo, splitTree, fewest, choiceTree, leftTree, mayLeft, rank, stageTree, wholeTable, compiled}
 use Rattle.rules.specs.declared.Gate.{Gate}
 use Rattle.rules.specs.declared.Gate.the-variants.{Min, Max}
 use Rattle.laws.proofs.TestLaws.{and-l, and-r, cond-ok}
 use Rattle.laws.proofs.CellLaws.{present-lt, length-without}
-use Rattle.laws.proofs.PadLaws.{more, cells-more, value-more, card-more, width-more, lowest-more, without-more, over-more, moved-more, exists-more, first-more, second-more}
+use Rattle.laws.proofs.WeakLaws.{weak-none}
+use Rattle.laws.proofs.PadLaws.{more, cells-more, value-more, card-more, width-more, lowest-more, without-more, over-more, moved-more, exists-more, first-more, second-more, weak-more}
 
 -- places past the end
 length-drop : (i : ℕ) (x : Stage) → length (dropOne i x .ks) ≡ length (x .ks)
@@ -72,6 +73,13 @@ module _ (is : ℕ → Bool) (joins : ℕ → ℕ → Bool) (e : ℕ) (end : (i 
 
   grouping-cut : (n p : ℕ) → e ≤ n → grouping is joins (numbersFrom 0 (n + p)) ≡ grouping is joins (numbersFrom 0 n)
   grouping-cut n p h = grow-cut 0 n p _ (omega arith) ∙ ap (grow is joins (numbersFrom 0 n)) (first-cut 0 n p (omega arith))
+
+-- weak joins, at numbers below the end only
+module _ (counts : Gate → ℕ → Bool) (e : ℕ) (end : (op : Gate) (i : ℕ) → e ≤ i → T (counts op i) → ⊥) where
+  weak-cut : (a n p : ℕ) → e ≤ a + n → firstWeak counts (numbersFrom a (n + p)) ≡ firstWeak counts (numbersFrom a n)
+  weak-cut a zero p h = rw (zero-add p) (weak-none counts a p (λ op i l u. end op i (omega arith)))
+  weak-cut a (suc n) p h =
+      rw (suc-add n p) (ap (λ (w : Weak). cond (counts Max a) (weakly Max a) (cond (counts Min a) (weakly Min a) w)) (weak-cut (suc a) n p (omega arith)))
 
 -- stages
 module _ (p : ℕ) where
@@ -133,6 +141,15 @@ module _ (p : ℕ) where
   pub chosen-more : (m : ℕ) (x : Stage) → chosen m (padS x) ≡ chosen m x
   chosen-more m x = ap₂ choose (groups-more m x Max) (groups-more m x Min)
 
+  found-more : (m : ℕ) (x : Stage) → weakFound m (padS x) ≡ weakFound m x
+  found-more m x =
+      ap₂ (λ (is : ℕ → Bool) (w : Gate → ℕ → Bool). firstWeak (λ op i. is i && w op i) (numbersFrom 0 (length (more p (x .ks))))) (present-more (x .ks)) (fun-ext (λ op. fun-ext (λ i. weak-more p op (x .ks) m i (x .limits))))
+      ∙ ap (λ (n : ℕ). firstWeak counts (numbersFrom 0 n)) (length-more (x .ks))
+      ∙ weak-cut counts (length (x .ks)) (λ op i h b. past (x .ks) i h (and-l (present (x .ks) i) (weakCounts op (x .ks) m i (x .limits)) b)) 0 (length (x .ks)) p (omega arith)
+    where
+      counts : Gate → ℕ → Bool
+      counts op i = present (x .ks) i && weakCounts op (x .ks) m i (x .limits)
+
   computed-more : (ks : List ℕ) (n : Tree) → computed (more p ks) n ≡ computed ks n
   computed-more ks n = ap₂ (λ (k : ℕ) (v : ℕ → ℕ → ℕ). tabulate k (λ c. treeGrade n (v c))) (cells-more p ks) (fun-ext (λ c. fun-ext (λ i. value-more p ks c i)))
 
@@ -151,42 +168,55 @@ module _ (p : ℕ) where
   singleton-more : (m : ℕ) (ks : List ℕ) (k : ℕ) → 1 ≤ width ks → selector m (more p ks) k ≡ selector m ks k
   singleton-more m ks k w = ap₂ (λ (i q : ℕ). lookup i (tabulate q (λ v. pick (eqb v k) (m - 1) 0))) (lowest-more p ks w) (low-card ks w)
 
-  module _ (m : ℕ) (net : Stage → Tree) (same : (z : Stage) → net (padS z) ≡ net z) where
+  module _ (m : ℕ) (net : Bool → Stage → Tree) (same : (q : Bool) (z : Stage) → net q (padS z) ≡ net q z) where
     part-more : (x : Stage) (k : ℕ) → 1 ≤ width (x .ks) → splitPart m net (padS x) k ≡ splitPart m net x k
-    part-more x k w = ap₂ (gated Min) (singleton-more m (x .ks) k w) (ap net (cofactor-more k x w) ∙ same (cofactorStage k x))
+    part-more x k w = ap₂ (gated Min) (singleton-more m (x .ks) k w) (ap (net true) (cofactor-more k x w) ∙ same true (cofactorStage k x))
 
-    split-more : (x : Stage) (k : ℕ) → 1 ≤ width (x .ks) → splitTo m net (padS x) k ≡ splitTo m net x k
-    split-more x zero w = part-more x 0 w
-    split-more x (suc k) w = ap₂ (gated Max) (split-more x k w) (part-more x (suc k) w)
+    splitTo-more : (x : Stage) (k : ℕ) → 1 ≤ width (x .ks) → splitTo m net (padS x) k ≡ splitTo m net x k
+    splitTo-more x zero w = part-more x 0 w
+    splitTo-more x (suc k) w = ap₂ (gated Max) (splitTo-more x k w) (part-more x (suc k) w)
 
-    join-more : (op : Gate) (s t : ℕ) (x : Stage) → joinTree m net op s t (padS x) ≡ joinTree m net op s t x
-    join-more op s t x =
-        ap (λ (a : Tree). gated op a (net (secondStage m op s t (padS x) (computed (more p (x .ks)) a))))
-        (ap (λ (l : Limits). net (outside t (padS x) l)) (first-more p op (x .ks) m s t (x .limits)) ∙ ap net (outside-more t x (firstLimits op (x .ks) m s t (x .limits))) ∙ same (firstStage m op s t x))
+    split-more : (x : Stage) → 1 ≤ width (x .ks) → splitTree m net (padS x) ≡ splitTree m net x
+    split-more x w = ap (λ (q : ℕ). splitTo m net (padS x) (q - 1)) (low-card (x .ks) w) ∙ splitTo-more x (card (x .ks) (lowest (x .ks)) - 1) w
+
+    join-more : (may : Bool) (op : Gate) (s t : ℕ) (x : Stage) → joinTree m net may op s t (padS x) ≡ joinTree m net may op s t x
+    join-more may op s t x =
+        ap (λ (a : Tree). gated op a (net true (secondStage m op s t (padS x) (computed (more p (x .ks)) a))))
+        (ap (λ (l : Limits). net may (outside t (padS x) l)) (first-more p op (x .ks) m s t (x .limits)) ∙ ap (net may) (outside-more t x (firstLimits op (x .ks) m s t (x .limits))) ∙ same may (firstStage m op s t x))
         ∙ ap (gated op a)
-        (ap (λ (g : List ℕ). net (secondStage m op s t (padS x) g)) (computed-more (x .ks) a)
-        ∙ ap (λ (l : Limits). net (outside s (padS x) l)) (second-more p op (x .ks) m s t (x .limits) (computed (x .ks) a))
-        ∙ ap net (outside-more s x (secondLimits op (x .ks) m s t (x .limits) (computed (x .ks) a)))
-        ∙ same (secondStage m op s t x (computed (x .ks) a)))
+        (ap (λ (g : List ℕ). net true (secondStage m op s t (padS x) g)) (computed-more (x .ks) a)
+        ∙ ap (λ (l : Limits). net true (outside s (padS x) l)) (second-more p op (x .ks) m s t (x .limits) (computed (x .ks) a))
+        ∙ ap (net true) (outside-more s x (secondLimits op (x .ks) m s t (x .limits) (computed (x .ks) a)))
+        ∙ same true (secondStage m op s t x (computed (x .ks) a)))
       where
         a : Tree
-        a = net (firstStage m op s t x)
+        a = net may (firstStage m op s t x)
 
-    choice-more : (ch : Choice) (x : Stage) → 1 ≤ width (x .ks) → choiceTree m net ch (padS x) ≡ choiceTree m net ch x
-    choice-more split x w = ap (λ (q : ℕ). splitTo m net (padS x) (q - 1)) (low-card (x .ks) w) ∙ split-more x (card (x .ks) (lowest (x .ks)) - 1) w
-    choice-more (joining op s t) x w = join-more op s t x
+    fewest-more : (w : Weak) (x : Stage) → 1 ≤ width (x .ks) → fewest m net w (padS x) ≡ fewest m net w x
+    fewest-more nowhere x h = split-more x h
+    fewest-more (weakly op i) x h = ap₂ (λ (a b : Tree). cond (ltb (size a) (size b)) a b) (join-more false op (singleton i) 0 x) (split-more x h)
 
-    leftTree-more : (n : ℕ) (x : Stage) → width (x .ks) ≡ n → leftTree m net n (padS x) ≡ leftTree m net n x
-    leftTree-more zero x e = refl
-    leftTree-more (suc zero) x e = ap₂ (λ (i q : ℕ). lookup i (tabulate q (at (x .limits .lower)))) (lowest-more p (x .ks) (omega arith)) (low-card (x .ks) (omega arith))
-    leftTree-more (suc (suc n)) x e = ap (λ (ch : Choice). choiceTree m net ch (padS x)) (chosen-more m x) ∙ choice-more (chosen m x) x (omega arith)
+    choice-more : (may : Bool) (ch : Choice) (x : Stage) → 1 ≤ width (x .ks) → choiceTree m net may ch (padS x) ≡ choiceTree m net may ch x
+    choice-more may split x h = ap (λ (w : Weak). fewest m net (cond may w nowhere) (padS x)) (found-more m x) ∙ fewest-more (tried m may x) x h
+    choice-more may (joining op s t) x h = join-more true op s t x
 
-  stage-more : (m f : ℕ) (x : Stage) → stageTree m f (padS x) ≡ stageTree m f x
-  stage-more m zero x = refl
-  stage-more m (suc f) x =
-      ap (λ (y : Stage). leftTree m (stageTree m f) (width (y .ks)) y) (left-more x)
-      ∙ ap (λ (n : ℕ). leftTree m (stageTree m f) n (padS (left x))) (width-more p (left x .ks))
-      ∙ leftTree-more m (stageTree m f) (stage-more m f) (width (left x .ks)) (left x) refl
+    leftTree-more : (may : Bool) (n : ℕ) (x : Stage) → width (x .ks) ≡ n → leftTree m net may n (padS x) ≡ leftTree m net may n x
+    leftTree-more may zero x e = refl
+    leftTree-more may (suc zero) x e = ap₂ (λ (i q : ℕ). lookup i (tabulate q (at (x .limits .lower)))) (lowest-more p (x .ks) (omega arith)) (low-card (x .ks) (omega arith))
+    leftTree-more may (suc (suc n)) x e = ap (λ (ch : Choice). choiceTree m net may ch (padS x)) (chosen-more m x) ∙ choice-more may (chosen m x) x (omega arith)
+
+  may-more : (may : Bool) (x : Stage) → mayLeft may (padS x) ≡ mayLeft may x
+  may-more may x =
+      ap (λ (y : Stage). may || ltb (width (y .ks)) (width (more p (x .ks)))) (left-more x)
+      ∙ ap₂ (λ (a b : ℕ). may || ltb a b) (width-more p (left x .ks)) (width-more p (x .ks))
+
+  stage-more : (m f : ℕ) (may : Bool) (x : Stage) → stageTree m f may (padS x) ≡ stageTree m f may x
+  stage-more m zero may x = refl
+  stage-more m (suc f) may x =
+      ap₂ (λ (q : Bool) (y : Stage). leftTree m (stageTree m f) q (width (y .ks)) y) (may-more may x) (left-more x)
+      ∙ ap (λ (n : ℕ). leftTree m (stageTree m f) (mayLeft may x) n (padS (left x))) (width-more p (left x .ks))
+      ∙ leftTree-more m (stageTree m f) (stage-more m f) (mayLeft may x) (width (left x .ks)) (left x) refl
 
   pub compiled-more : (ks : List ℕ) (m : ℕ) (l : Limits) → compiled (more p ks) m l ≡ compiled ks m l
-  compiled-more ks m l = ap (λ (f : ℕ). stageTree m f (padS (wholeTable ks l))) (width-more p ks) ∙ stage-more m (width ks) (wholeTable ks l)
+  compiled-more ks m l =
+      ap (λ (w : ℕ). stageTree m (2 * w + 1) true (padS (wholeTable ks l))) (width-more p ks) ∙ stage-more m (rank true (wholeTable ks l)) true (wholeTable ks l)

@@ -1,13 +1,14 @@
 -- Sets of conditions.
-use Prim.Native.Nat.{ℕ, zero, suc, _/_, _%_, _<_}
+use Prim.Native.Nat.{ℕ, zero, suc, _/_, _%_, _^_, _<_}
 use mathlib.Core.Path.{_≡_, refl, sym, _∙_, ap, subst}
-use mathlib.Core.Bool.{Bool, true, false, not, _||_}
+use mathlib.Core.Bool.{Bool, true, false, not, _&&_, _||_}
 use mathlib.Core.List.{List, [], _∷_}
 use mathlib.Core.Logic.{_⊎_, inl, inr, ⊎-elim}
 use native.Mathlib.Nat.{le-refl, mod-lt}
 use native.Mathlib.Omega.{arith}
-use lib.Bits.{bitOr, or-shr, or-mod}
+use lib.Bits.{bitAnd, bitOr, and-shr, and-mod, or-shr, or-mod}
 use lib.Dec.{T, eqb}
+use Rattle.rules.specs.Bytes.{pick}
 use Rattle.rules.specs.Cell.{has, insert, singleton}
 use Rattle.rules.specs.Demands.{Subset}
 use Rattle.laws.proofs.OverLaws.{subset}
@@ -36,17 +37,40 @@ pub has-none : (j : ℕ) → T (has 0 j) → ⊥
 has-none zero h = h
 has-none (suc j) h = has-none j h
 
+-- an operation on the digits of two numbers is one on the tests for them
+module _ (op : ℕ → ℕ → ℕ) (f : Bool → Bool → Bool) (shr : (a b k : ℕ) → op a b / 2 ^ k ≡ op (a / 2 ^ k) (b / 2 ^ k))
+    (cut : (a b k : ℕ) → op a b % 2 ^ k ≡ op (a % 2 ^ k) (b % 2 ^ k)) (digit : (x y : Bool) → eqb (op (pick x 1 0) (pick y 1 0)) 1 ≡ f x y) where
+  digits : (x y : ℕ) → x < 2 → y < 2 → eqb (op x y) 1 ≡ f (eqb x 1) (eqb y 1)
+  digits zero zero h g = digit false false
+  digits zero (suc zero) h g = digit false true
+  digits zero (suc (suc y)) h g = absurd (omega arith)
+  digits (suc zero) zero h g = digit true false
+  digits (suc zero) (suc zero) h g = digit true true
+  digits (suc zero) (suc (suc y)) h g = absurd (omega arith)
+  digits (suc (suc x)) y h g = absurd (omega arith)
+
+  has-digits : (a b j : ℕ) → has (op a b) j ≡ f (has a j) (has b j)
+  has-digits a b zero = ap (λ (x : ℕ). eqb x 1) (cut a b 1) ∙ digits (a % 2) (b % 2) (mod-lt a (omega arith)) (mod-lt b (omega arith))
+  has-digits a b (suc j) = ap (λ (x : ℕ). has x j) (shr a b 1) ∙ has-digits (a / 2) (b / 2) j
+
 -- a union has what either set has
 pub has-or : (a b j : ℕ) → has (bitOr a b) j ≡ has a j || has b j
-has-or a b zero = ap (λ (x : ℕ). eqb x 1) (or-mod a b 1) ∙ digits (a % 2) (b % 2) (mod-lt a (omega arith)) (mod-lt b (omega arith))
+has-or = has-digits bitOr _||_ or-shr or-mod digit
   where
-    digits : (x y : ℕ) → x < 2 → y < 2 → eqb (bitOr x y) 1 ≡ eqb x 1 || eqb y 1
-    digits zero y h g = refl
-    digits (suc zero) zero h g = refl
-    digits (suc zero) (suc zero) h g = refl
-    digits (suc zero) (suc (suc y)) h g = absurd (omega arith)
-    digits (suc (suc x)) y h g = absurd (omega arith)
-has-or a b (suc j) = ap (λ (x : ℕ). has x j) (or-shr a b 1) ∙ has-or (a / 2) (b / 2) j
+    digit : (x y : Bool) → eqb (bitOr (pick x 1 0) (pick y 1 0)) 1 ≡ x || y
+    digit true true = refl
+    digit true false = refl
+    digit false true = refl
+    digit false false = refl
+
+-- and an intersection what both have
+pub has-and : (a b j : ℕ) → has (bitAnd a b) j ≡ has a j && has b j
+has-and = has-digits bitAnd _&&_ and-shr and-mod digit
+  where
+    digit : (x y : Bool) → eqb (bitAnd (pick x 1 0) (pick y 1 0)) 1 ≡ x && y
+    digit true true = refl
+    digit true false = refl
+    digit false y = refl
 
 -- s with i is part of what has i and all of s
 pub insert-part : (s i u : ℕ) → Subset s u → T (has u i) → Subset (insert s i) u

@@ -5,15 +5,15 @@ use mathlib.Core.Bool.{Bool, true, false, _&&_}
 use mathlib.Core.List.{List, [], _∷_}
 use native.Mathlib.Nat.{le-refl, le-trans}
 use native.Mathlib.Omega.{arith}
-use lib.Dec.{T, leb, eqb, leb→le, le→leb, eqb→eq, eqb-refl}
+use lib.Dec.{T, leb, ltb, eqb, leb→le, le→leb, eqb→eq, eqb-refl}
 use lib.ListN.{length}
 use Rattle.rules.specs.Bytes.{at, tabulate, all, pick, numbersFrom}
 use Rattle.rules.specs.Cell.{Positive, cells, card, present, width, lowest, value, remap, without, singleton, leastOver}
 use Rattle.rules.specs.Limits.{Limits}
-use Rattle.rules.specs.Join.{firstLimits, secondLimits}
-use Rattle.rules.specs.Tree.{Tree, fixed, lookup, treeGrade}
-use Rattle.rules.specs.Stage.{Stage, outside, computed, merged, fits, dropOne, drops, left, Choice, split, joining, chosen, firstStage, secondStage, cofactorStage, joinTree, splitPart, splitTo, choiceTree, leftTree, stageTree, treeOf, wholeTable, compiled}
-use Rattle.rules.specs.Demands.{Between, Inside, Admits, Table, StageOf, itself, first-block, second-block, cofactor}
+use Rattle.rules.specs.Join.{joinExists, firstLimits, secondLimits}
+use Rattle.rules.specs.Tree.{Tree, fixed, lookup, gated, treeGrade, size}
+use Rattle.rules.specs.Stage.{Stage, outside, computed, merged, fits, dropOne, drops, left, Choice, split, joining, chosen, Weak, nowhere, weakly, tried, firstStage, secondStage, cofactorStage, joinTree, splitPart, splitTo, splitTree, weakTree, fewest, choiceTree, leftTree, mayLeft, rank, stageTree, treeOf, wholeTable, compiled}
+use Rattle.rules.specs.Demands.{Between, Inside, Admits, Table, StageOf, itself, first-block, second-block, cofactor, weak-first, weak-second}
 use Rattle.rules.specs.declared.Gate.{Gate}
 use Rattle.laws.proofs.TestLaws.{same-test, and-l, and-r, by-order, cond-ok, pick-ok}
 use Rattle.laws.proofs.TableLaws.{at-tabulate, all-at, all-of}
@@ -23,6 +23,7 @@ use Rattle.laws.proofs.CellLaws.{cells-pos, cell-lt, value-lt, Sub, sub
 use Rattle.laws.proofs.LowestLaws.{no-width, lowest-two, lowest-present, lowest-fewer, lowest-cell, lowest-below, one-cells, one-value}
 use Rattle.laws.proofs.TreeLaws.{Made, made-tabulate, made-wider, made-below, made-remap, computed-at}
 use Rattle.laws.proofs.GroupLaws.{ChoiceOf, chosen-ok}
+use Rattle.laws.proofs.WeakLaws.{WeakOf, weak-exists, tried-may, rank-left, rank-fewer, weak-first-rank, one-fewer}
 use Rattle.laws.proofs.GateLaws.{Good, BlindTo, first-good, first-blind, second-good, second-blind, gate-within}
 
 -- a stage that can be started
@@ -219,26 +220,52 @@ module _ (x : Stage) (p : Positive (x .ks)) (w : 1 ≤ width (x .ks)) (k : ℕ) 
             };
       }
 
-module _ (m : ℕ) (op : Gate) (s t : ℕ) (x : Stage) (r : Ready m x) (ad : Admits m x op s t) where
+module _ (m : ℕ) (op : Gate) (s t : ℕ) (x : Stage) (r : Ready m x) (e : T (joinExists op (x .ks) m s t (x .limits))) where
   pub first-ready : Ready m (firstStage m op s t x)
-  first-ready = outside-ready m t x (firstLimits op (x .ks) m s t (x .limits)) (r .pos) (r .grades) (first-good (x .ks) m s t op (x .limits) (r .good) (ad .joins))
+  first-ready = outside-ready m t x (firstLimits op (x .ks) m s t (x .limits)) (r .pos) (r .grades) (first-good (x .ks) m s t op (x .limits) (r .good) e)
 
   pub second-ready : (g : List ℕ) → Inside (x .ks) (firstLimits op (x .ks) m s t (x .limits)) (at g) → Ready m (secondStage m op s t x g)
   second-ready g w =
-      outside-ready m s x (secondLimits op (x .ks) m s t (x .limits) g) (r .pos) (r .grades) (second-good (x .ks) m s t op (x .limits) g (r .good) (ad .joins) w)
+      outside-ready m s x (secondLimits op (x .ks) m s t (x .limits) g) (r .pos) (r .grades) (second-good (x .ks) m s t op (x .limits) g (r .good) e w)
+
+  -- 5. the blocks' networks
+  module _ (a : Tree) (first-ok : NetOk m (firstStage m op s t x) a) where
+    abbrev g : List ℕ
+    g = computed (x .ks) a
+
+    pub first-inside : Inside (x .ks) (firstLimits op (x .ks) m s t (x .limits)) (at g)
+    first-inside c hc =
+        rw (computed-at (x .ks) a c hc)
+        (outside-within m t x (firstLimits op (x .ks) m s t (x .limits)) (r .pos) (first-blind (x .ks) m s t op (x .limits)) a first-ok c hc)
+
+    pub second-start : Ready m (secondStage m op s t x g)
+    second-start = second-ready g first-inside
+
+    pub blocks-ok : (b : Tree) → NetOk m (secondStage m op s t x g) b → NetOk m x (gated op a b)
+    blocks-ok b second-ok =
+        record {
+          within = λ c hc.
+              rw (computed-at (x .ks) a c hc) at
+              (gate-within (x .ks) m s t op (x .limits) g (λ c. treeGrade b (value (x .ks) c)) (r .good) e first-inside
+              (outside-within m s x (secondLimits op (x .ks) m s t (x .limits) g) (r .pos) (second-blind (x .ks) m s t op (x .limits) g) b second-ok) c hc);
+          made = (
+            made-wider (without t (x .ks)) (x .ks) m a (sub-without t (x .ks)) (first-ok .made),
+            made-wider (without s (x .ks)) (x .ks) m b (sub-without s (x .ks)) (second-ok .made),
+          );
+        }
 
 -- 6. the grade of a split: that of the stage for the value
-module _ (m : ℕ) (net : Stage → Tree) (x : Stage) (v : ℕ → ℕ) (low : (k : ℕ) → k < card (x .ks) (lowest (x .ks)) → treeGrade (net (cofactorStage k x)) v < m) where
+module _ (m : ℕ) (net : Bool → Stage → Tree) (x : Stage) (v : ℕ → ℕ) (low : (k : ℕ) → k < card (x .ks) (lowest (x .ks)) → treeGrade (net true (cofactorStage k x)) v < m) where
   abbrev top : ℕ
   top = card (x .ks) (lowest (x .ks))
 
   abbrev here : ℕ
   here = v (lowest (x .ks))
 
-  part-grade : (k : ℕ) → here < top → k < top → ((here ≡ k → treeGrade (splitPart m net x k) v ≡ treeGrade (net (cofactorStage k x)) v) × ((here ≡ k → ⊥) → treeGrade (splitPart m net x k) v ≡ 0))
+  part-grade : (k : ℕ) → here < top → k < top → ((here ≡ k → treeGrade (splitPart m net x k) v ≡ treeGrade (net true (cofactorStage k x)) v) × ((here ≡ k → ⊥) → treeGrade (splitPart m net x k) v ≡ 0))
   part-grade k hv hk =
       rw (at-tabulate top (λ w. pick (eqb w k) (m - 1) 0) here hv)
-      (go (eqb here k) (eqb→eq here k) (λ n e. n (subst (λ (z : ℕ). T (eqb here z)) e (eqb-refl here))) (treeGrade (net (cofactorStage k x)) v) (low k hk))
+      (go (eqb here k) (eqb→eq here k) (λ n e. n (subst (λ (z : ℕ). T (eqb here z)) e (eqb-refl here))) (treeGrade (net true (cofactorStage k x)) v) (low k hk))
     where
       go : (o : Bool) → (T o → here ≡ k) → ((T o → ⊥) → here ≡ k → ⊥) → (y : ℕ) → y < m
           → (here ≡ k → min (pick o (m - 1) 0) y ≡ y) × ((here ≡ k → ⊥) → min (pick o (m - 1) 0) y ≡ 0)
@@ -246,73 +273,79 @@ module _ (m : ℕ) (net : Stage → Tree) (x : Stage) (v : ℕ → ℕ) (low : (
       go false f n y h = ((λ e. absurd (n (λ z. z) e)), (λ o. omega arith))
 
   split-to : (k : ℕ) → here < top → k < top
-      → (here ≤ k → treeGrade (splitTo m net x k) v ≡ treeGrade (net (cofactorStage here x)) v) × (k < here → treeGrade (splitTo m net x k) v ≡ 0)
+      → (here ≤ k → treeGrade (splitTo m net x k) v ≡ treeGrade (net true (cofactorStage here x)) v) × (k < here → treeGrade (splitTo m net x k) v ≡ 0)
   split-to zero hv hk =
       let q = part-grade 0 hv hk in
-      ((λ le. let e : here ≡ 0 = omega arith in q .0 e ∙ ap (λ (j : ℕ). treeGrade (net (cofactorStage j x)) v) (sym e)), (λ lt. q .1 (λ e. omega arith)))
+      ((λ le. let e : here ≡ 0 = omega arith in q .0 e ∙ ap (λ (j : ℕ). treeGrade (net true (cofactorStage j x)) v) (sym e)), (λ lt. q .1 (λ e. omega arith)))
   split-to (suc k) hv hk =
       let r = split-to k hv (omega arith) in
       let q = part-grade (suc k) hv hk in (
         (λ le.
             by-order here k (λ a. omega (arith, r .0 a, q .1 (λ e. omega arith)))
-            (λ lt. let e : here ≡ suc k = omega arith in omega (arith, r .1 lt, q .0 e, ap (λ (j : ℕ). treeGrade (net (cofactorStage j x)) v) e))),
+            (λ lt. let e : here ≡ suc k = omega arith in omega (arith, r .1 lt, q .0 e, ap (λ (j : ℕ). treeGrade (net true (cofactorStage j x)) v) e))),
         (λ lt. omega (arith, r .1 (omega arith), q .1 (λ e. omega arith))),
       )
 
-  pub split-grade : here < top → treeGrade (splitTo m net x (top - 1)) v ≡ treeGrade (net (cofactorStage here x)) v
+  pub split-grade : here < top → treeGrade (splitTo m net x (top - 1)) v ≡ treeGrade (net true (cofactorStage here x)) v
   split-grade hv = split-to (top - 1) hv (omega arith) .0 (omega arith)
 
--- what is asked of the stages with at most f conditions
-abbrev pub SubOk : ℕ → (Stage → Tree) → ℕ → Type 0
-SubOk m net f = (x : Stage) → width (x .ks) ≤ f → Ready m x → NetOk m x (net x)
+-- what is asked of the stages of rank f at most
+abbrev pub SubOk : ℕ → (Bool → Stage → Tree) → ℕ → Type 0
+SubOk m net f = (may : Bool) (x : Stage) → rank may x ≤ f → Ready m x → NetOk m x (net may x)
 
-module _ (m : ℕ) (net : Stage → Tree) (f : ℕ) (ok : SubOk m net f) (x : Stage) (hf : width (x .ks) ≤ suc f) (r : Ready m x) where
-  -- 5. the blocks' networks
+module _ (m : ℕ) (net : Bool → Stage → Tree) (f : ℕ) (ok : SubOk m net f) (may : Bool) (x : Stage) (hf : rank may x ≤ suc f) (r : Ready m x) where
+  below-rank : (q : Bool) (z : Stage) → width (z .ks) < width (x .ks) → Ready m z → NetOk m z (net q z)
+  below-rank q z h p = ok q z (omega (arith, rank-fewer q may z x h)) p
+
+  -- 5.
   module _ (op : Gate) (s t : ℕ) (ad : Admits m x op s t) where
-    pub first-ok : NetOk m (firstStage m op s t x) (net (firstStage m op s t x))
+    pub first-ok : NetOk m (firstStage m op s t x) (net true (firstStage m op s t x))
     first-ok =
         let a = ad .sets .some-t in
-        ok _ (omega (arith, without-lt t (x .ks) (a .0) (ad .sets .in-t (a .0) (a .1)) (a .1))) (first-ready m op s t x r ad)
+        below-rank true (firstStage m op s t x) (without-lt t (x .ks) (a .0) (ad .sets .in-t (a .0) (a .1)) (a .1)) (first-ready m op s t x r (ad .joins))
 
-    pub first-inside : Inside (x .ks) (firstLimits op (x .ks) m s t (x .limits)) (at (computed (x .ks) (net (firstStage m op s t x))))
-    first-inside c hc =
-        rw (computed-at (x .ks) (net (firstStage m op s t x)) c hc)
-        (outside-within m t x (firstLimits op (x .ks) m s t (x .limits)) (r .pos) (first-blind (x .ks) m s t op (x .limits)) _ first-ok c hc)
+    abbrev B : Stage
+    B = secondStage m op s t x (computed (x .ks) (net true (firstStage m op s t x)))
 
-    abbrev g : List ℕ
-    g = computed (x .ks) (net (firstStage m op s t x))
-
-    pub second-ok : NetOk m (secondStage m op s t x g) (net (secondStage m op s t x g))
+    pub second-ok : NetOk m B (net true B)
     second-ok =
         let a = ad .sets .some-s in
-        ok _ (omega (arith, without-lt s (x .ks) (a .0) (ad .sets .in-s (a .0) (a .1)) (a .1))) (second-ready m op s t x r ad g first-inside)
+        below-rank true B (without-lt s (x .ks) (a .0) (ad .sets .in-s (a .0) (a .1)) (a .1)) (second-start m op s t x r (ad .joins) _ first-ok)
 
-    join-ok : NetOk m x (joinTree m net op s t x)
-    join-ok =
-        record {
-          within = λ c hc.
-              rw (computed-at (x .ks) (net (firstStage m op s t x)) c hc) at
-              (gate-within (x .ks) m s t op (x .limits) g (λ c. treeGrade (net (secondStage m op s t x g)) (value (x .ks) c)) (r .good) (ad .joins) first-inside
-              (outside-within m s x (secondLimits op (x .ks) m s t (x .limits) g) (r .pos) (second-blind (x .ks) m s t op (x .limits) g) _ second-ok) c hc);
-          made = (
-            made-wider (without t (x .ks)) (x .ks) m (net (firstStage m op s t x)) (sub-without t (x .ks)) (first-ok .made),
-            made-wider (without s (x .ks)) (x .ks) m (net (secondStage m op s t x g)) (sub-without s (x .ks)) (second-ok .made),
-          );
-        }
+    join-ok : NetOk m x (joinTree m net true op s t x)
+    join-ok = blocks-ok m op s t x r (ad .joins) _ first-ok _ second-ok
+
+  -- a weak join
+  module _ (op : Gate) (i : ℕ) (yes : T may) (h : T (present (x .ks) i)) where
+    joins : T (joinExists op (x .ks) m (singleton i) 0 (x .limits))
+    joins = weak-exists op (x .ks) m (singleton i) (x .limits) (r .pos) (r .good)
+
+    pub weak-first-ok : NetOk m (firstStage m op (singleton i) 0 x) (net false (firstStage m op (singleton i) 0 x))
+    weak-first-ok =
+        ok false (firstStage m op (singleton i) 0 x) (omega (arith, weak-first-rank may m op (singleton i) x yes)) (first-ready m op (singleton i) 0 x r joins)
+
+    abbrev weak-B : Stage
+    weak-B = secondStage m op (singleton i) 0 x (computed (x .ks) (net false (firstStage m op (singleton i) 0 x)))
+
+    pub weak-second-ok : NetOk m weak-B (net true weak-B)
+    weak-second-ok = below-rank true weak-B (one-fewer (x .ks) i h) (second-start m op (singleton i) 0 x r joins _ weak-first-ok)
+
+    weak-ok : NetOk m x (weakTree m net op i x)
+    weak-ok = blocks-ok m op (singleton i) 0 x r joins _ weak-first-ok _ weak-second-ok
 
   -- 6.
   module _ (w : 1 ≤ width (x .ks)) where
     abbrev i : ℕ
     i = lowest (x .ks)
 
-    pub cofactor-ok : (k : ℕ) → k < card (x .ks) i → NetOk m (cofactorStage k x) (net (cofactorStage k x))
-    cofactor-ok k hk = ok _ (omega (arith, lowest-fewer (x .ks) (r .pos) w)) (cofactor-ready x (r .pos) w k m r hk)
+    pub cofactor-ok : (k : ℕ) → k < card (x .ks) i → NetOk m (cofactorStage k x) (net true (cofactorStage k x))
+    cofactor-ok k hk = below-rank true (cofactorStage k x) (lowest-fewer (x .ks) (r .pos) w) (cofactor-ready x (r .pos) w k m r hk)
 
     part-made : (k : ℕ) → k < card (x .ks) i → Made (x .ks) m (splitPart m net x k)
     part-made k hk = (
       made-tabulate (x .ks) m i (λ v. pick (eqb v k) (m - 1) 0) (r .grades) (lowest-present (x .ks) (r .pos) w)
           (λ v hv. pick-ok (λ (q : ℕ). q < m) (eqb v k) (m - 1) 0 (λ o. omega (arith, r .grades)) (λ o. r .grades)),
-      made-wider (without (singleton i) (x .ks)) (x .ks) m (net (cofactorStage k x)) (sub-without (singleton i) (x .ks)) (cofactor-ok k hk .made),
+      made-wider (without (singleton i) (x .ks)) (x .ks) m (net true (cofactorStage k x)) (sub-without (singleton i) (x .ks)) (cofactor-ok k hk .made),
     )
 
     splitTo-made : (k : ℕ) → k < card (x .ks) i → Made (x .ks) m (splitTo m net x k)
@@ -320,10 +353,10 @@ module _ (m : ℕ) (net : Stage → Tree) (f : ℕ) (ok : SubOk m net f) (x : St
     splitTo-made (suc k) hk = (splitTo-made k (omega arith), part-made (suc k) hk)
 
     -- its function is that of the stage for the value
-    pub split-at : (v : ℕ → ℕ) → v i < card (x .ks) i → treeGrade (splitTo m net x (card (x .ks) i - 1)) v ≡ treeGrade (net (cofactorStage (v i) x)) v
-    split-at v hv = split-grade m net x v (λ k hk. made-below (without (singleton i) (x .ks)) m (net (cofactorStage k x)) (cofactor-ok k hk .made) v) hv
+    pub split-at : (v : ℕ → ℕ) → v i < card (x .ks) i → treeGrade (splitTo m net x (card (x .ks) i - 1)) v ≡ treeGrade (net true (cofactorStage (v i) x)) v
+    split-at v hv = split-grade m net x v (λ k hk. made-below (without (singleton i) (x .ks)) m (net true (cofactorStage k x)) (cofactor-ok k hk .made) v) hv
 
-    split-ok : NetOk m x (splitTo m net x (card (x .ks) i - 1))
+    split-ok : NetOk m x (splitTree m net x)
     split-ok =
         record {
           within = λ c hc.
@@ -332,7 +365,7 @@ module _ (m : ℕ) (net : Stage → Tree) (f : ℕ) (ok : SubOk m net f) (x : St
               let b = without (singleton i) (x .ks) in
               let p = without-pos (singleton i) (x .ks) (r .pos) in
               let hd = cell-lt b (value (x .ks) c) p in
-              let n = net (cofactorStage k x) in
+              let n = net true (cofactorStage k x) in
               let o = cofactor-ok k hk in
               subst (Between (x .limits) c) (sym (split-at (value (x .ks) c) hk))
               (rw (cofactor-at x (r .pos) w k (x .limits .lower) (remap (x .ks) b c) hd, cofactor-at x (r .pos) w k (x .limits .upper) (remap (x .ks) b c) hd, lowest-cell (x .ks) c (r .pos) w hc, made-remap (x .ks) b m n c (r .pos) p (sub-without (singleton i) (x .ks)) (o .made))
@@ -341,44 +374,63 @@ module _ (m : ℕ) (net : Stage → Tree) (f : ℕ) (ok : SubOk m net f) (x : St
         }
 
   -- 2. to 6.
-  choice-ok : (ch : Choice) → 1 ≤ width (x .ks) → ChoiceOf (Admits m x) ch → NetOk m x (choiceTree m net ch x)
-  choice-ok split w o = split-ok w
+  fewest-ok : (w : Weak) → 1 ≤ width (x .ks) → WeakOf (λ op i. T may × T (present (x .ks) i)) w → NetOk m x (fewest m net w x)
+  fewest-ok nowhere h o = split-ok h
+  fewest-ok (weakly op i) h o =
+      cond-ok (NetOk m x) (ltb (size (weakTree m net op i x)) (size (splitTree m net x))) (weakTree m net op i x) (splitTree m net x)
+      (λ b. weak-ok op i (o .0) (o .1)) (λ n. split-ok h)
+
+  choice-ok : (ch : Choice) → 1 ≤ width (x .ks) → ChoiceOf (Admits m x) ch → NetOk m x (choiceTree m net may ch x)
+  choice-ok split w o = fewest-ok (tried m may x) w (tried-may m may x)
   choice-ok (joining op s t) w o = join-ok op s t o
 
-  pub left-ok : (n : ℕ) → width (x .ks) ≡ n → NetOk m x (leftTree m net n x)
+  pub left-ok : (n : ℕ) → width (x .ks) ≡ n → NetOk m x (leftTree m net may n x)
   left-ok zero e = fixed-ok m x r e
   left-ok (suc zero) e = literal-ok m x r e
   left-ok (suc (suc n)) e = choice-ok (chosen m x) (omega arith) (chosen-ok m x)
 
 -- every stage
 pub stage-ok : (m f : ℕ) → SubOk m (stageTree m f) f
-stage-ok m zero x hf r = fixed-ok m x r (omega arith)
-stage-ok m (suc f) x hf r =
+stage-ok m zero may x hf r = fixed-ok m x r (omega arith)
+stage-ok m (suc f) may x hf r =
     let d = drops-ok m (numbersFrom 0 (length (x .ks))) x r in
-    d .back _ (left-ok m (stageTree m f) f (stage-ok m f) (left x) (le-trans (left-shrunk x (r .pos) .fewer) hf) (d .ready) (width (left x .ks)) refl)
+    d .back _
+    (left-ok m (stageTree m f) f (stage-ok m f) (mayLeft may x) (left x) (le-trans (rank-left may x (left-shrunk x (r .pos) .fewer)) hf) (d .ready) (width (left x .ks)) refl)
 
-pub network-ok : (m : ℕ) (x : Stage) → Ready m x → NetOk m x (treeOf m x)
-network-ok m x r = stage-ok m (width (x .ks)) x (le-refl _) r
+pub network-ok : (m : ℕ) (may : Bool) (x : Stage) → Ready m x → NetOk m x (treeOf m may x)
+network-ok m may x r = stage-ok m (rank may x) may x (le-refl _) r
 
 -- the whole table
 pub whole-ready : (ks : List ℕ) (m : ℕ) (l : Limits) → Table ks m l → Ready m (wholeTable ks l)
 whole-ready ks m l t = record { grades = omega (arith, t .grades); pos = t .positive; good = record { room = t .ordered; top = t .top } }
 
 pub compiled-ok : (ks : List ℕ) (m : ℕ) (l : Limits) → Table ks m l → NetOk m (wholeTable ks l) (compiled ks m l)
-compiled-ok ks m l t = network-ok m (wholeTable ks l) (whole-ready ks m l t)
+compiled-ok ks m l t = network-ok m true (wholeTable ks l) (whole-ready ks m l t)
 
 -- every stage of a table
 pub admitted : (m : ℕ) (y : Stage) (op : Gate) (s t : ℕ) → chosen m y ≡ joining op s t → Admits m y op s t
 admitted m y op s t e = subst (ChoiceOf (Admits m y)) e (chosen-ok m y)
 
-pub stages-ready : (ks : List ℕ) (m : ℕ) (l : Limits) → Table ks m l → {x : Stage} → StageOf m (wholeTable ks l) x → Ready m x
+-- the stages that a join of two sets, or a weak join, starts: `may` for its first block
+module _ (m : ℕ) (op : Gate) (s t : ℕ) (y : Stage) (r : Ready m y) (e : T (joinExists op (y .ks) m s t (y .limits))) (may : Bool) where
+  pub second-of : Ready m (secondStage m op s t y (computed (y .ks) (treeOf m may (firstStage m op s t y))))
+  second-of = second-start m op s t y r e _ (network-ok m may (firstStage m op s t y) (first-ready m op s t y r e))
+
+pub weak-joins : (m : ℕ) (op : Gate) (s : ℕ) (y : Stage) → Ready m y → T (joinExists op (y .ks) m s 0 (y .limits))
+weak-joins m op s y r = weak-exists op (y .ks) m s (y .limits) (r .pos) (r .good)
+
+pub stages-ready : (ks : List ℕ) (m : ℕ) (l : Limits) → Table ks m l → {may : Bool} {x : Stage} → StageOf m (wholeTable ks l) may x → Ready m x
 stages-ready ks m l w itself = whole-ready ks m l w
 stages-ready ks m l w (first-block {x = x} op s t o h e) =
-    first-ready m op s t (left x) (left-ready m x (stages-ready ks m l w o)) (admitted m (left x) op s t e)
+    first-ready m op s t (left x) (left-ready m x (stages-ready ks m l w o)) (admitted m (left x) op s t e .joins)
 stages-ready ks m l w (second-block {x = x} op s t o h e) =
-    let r = left-ready m x (stages-ready ks m l w o) in
-    let a = admitted m (left x) op s t e in
-    second-ready m op s t (left x) r a _ (first-inside m (treeOf m) (width (left x .ks)) (λ z h q. network-ok m z q) (left x) (omega arith) r op s t a)
+    second-of m op s t (left x) (left-ready m x (stages-ready ks m l w o)) (admitted m (left x) op s t e .joins) true
 stages-ready ks m l w (cofactor {x = x} k o h e hk) =
     let r = left-ready m x (stages-ready ks m l w o) in
     cofactor-ready (left x) (r .pos) (omega arith) k m r hk
+stages-ready ks m l w (weak-first {x = x} op i o h e c) =
+    let r = left-ready m x (stages-ready ks m l w o) in
+    first-ready m op (singleton i) 0 (left x) r (weak-joins m op (singleton i) (left x) r)
+stages-ready ks m l w (weak-second {x = x} op i o h e c) =
+    let r = left-ready m x (stages-ready ks m l w o) in
+    second-of m op (singleton i) 0 (left x) r (weak-joins m op (singleton i) (left x) r) false

@@ -1,7 +1,7 @@
 -- Tables as functions of the cell, and tests of every cell.
 use Prim.Native.Nat.{ℕ, zero, suc, _+_, _≤_, _<_}
 use mathlib.Core.Path.{_≡_, refl, sym, _∙_, ap, ap₂, subst}
-use mathlib.Core.Bool.{Bool, true, false, _&&_}
+use mathlib.Core.Bool.{Bool, true, false, not, _&&_}
 use mathlib.Core.List.{List, [], _∷_, map}
 use mathlib.Core.Logic.{⊎-elim}
 use native.Mathlib.Nat.{add-zero, zero-add, le-refl, not-suc-le-zero, le-of-suc-le-suc, eq-or-lt-of-le}
@@ -9,7 +9,7 @@ use native.Mathlib.Numerals.{add-one}
 use native.Mathlib.Omega.{arith}
 use lib.Dec.{T}
 use lib.ListN.{length, getD}
-use Rattle.rules.specs.Bytes.{at, tabulate, tabulateFrom, all}
+use Rattle.rules.specs.Bytes.{at, tabulate, tabulateFrom, all, some}
 use Rattle.laws.proofs.TestLaws.{and-l, and-r, and-i}
 
 getD-tabFrom : (f : ℕ → ℕ) (n i c : ℕ) → c < n → getD (tabulateFrom f i n) c 0 ≡ f (i + c)
@@ -64,6 +64,13 @@ all-false (suc n) p c h e =
     and-no : (b : Bool) → b && false ≡ false
     and-no true = refl
     and-no false = refl
+
+-- one that stops at the first that passes
+pub some-true : (n : ℕ) (p : ℕ → Bool) (c : ℕ) → c < n → p c ≡ true → some n p ≡ true
+some-true n p c h e = ap not (all-false n (λ i. not (p i)) c h (ap not e))
+
+pub some-false : (n : ℕ) (p : ℕ → Bool) → all n (λ i. not (p i)) ≡ true → some n p ≡ false
+some-false n p e = ap not e
 
 -- where not every cell passes, one fails
 pub all-fails : {P : Type 0} (n : ℕ) (p : ℕ → Bool) → all n p ≡ false → ((c : ℕ) → c < n → p c ≡ false → P) → P

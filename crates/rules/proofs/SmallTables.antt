@@ -4,6 +4,7 @@ use Rattle.rules.specs.SmallForecasts.{Forecasts}
 use Rattle.rules.specs.Small.{Small}
 use Rattle.rules.specs.SmallListings.{SmallListings}
 use Rattle.rules.specs.SmallVisits.{Visits}
+use Rattle.rules.specs.SmallWeak.{WeakJoins}
 
 pub small-tables : Small
 small-tables =
@@ -19,3 +20,6 @@ forecasts = (refl, refl, refl, refl, refl, refl, refl, refl, refl, refl, refl, r
 
 pub visits : Visits
 visits = (refl, refl, refl, refl, refl, refl, refl, refl, refl, refl, refl, refl, refl, refl, refl)
+
+pub weak-joins : WeakJoins
+weak-joins = (refl, refl, refl, refl, refl, refl, refl, refl, refl)

@@ -1,7 +1,7 @@
 -- Lists of bytes: what stands at a place, tests of every place, and the records of sixteen bytes that both file formats are made of.
 use Prim.Native.Nat.{ℕ, zero, suc, _+_, _-_, _*_}
 use mathlib.Core.Path.{_≡_}
-use mathlib.Core.Bool.{Bool, true, false, _&&_}
+use mathlib.Core.Bool.{Bool, true, false, not, _&&_}
 use mathlib.Core.List.{List, [], _∷_}
 use lib.Dec.{eqb}
 use lib.ListN.{length, getD, take, drop}
@@ -28,6 +28,10 @@ tabulate n f = tabulateFrom f 0 n
 abbrev pub all : ℕ → (ℕ → Bool) → Bool
 all zero p = true
 all (suc n) p = all n p && p n
+
+-- the test passes at some place below n
+abbrev pub some : ℕ → (ℕ → Bool) → Bool
+some n p = not (all n (λ i. not (p i)))
 
 -- the numbers i, i + 1, .., n of them
 abbrev pub numbersFrom : ℕ → ℕ → List ℕ

@@ -17,9 +17,9 @@ use Rattle.rules.specs.Demands.{compiledRecords}
 abbrev pub mostRecords : ℕ → ℕ
 mostRecords c = pick (eqb c 1) 1 (3 * c - 5)
 
--- the bytes of work for a table of c cells
+-- the bytes of work for a table of c cells; by request 5, which takes the place of 01's 16 for each
 abbrev pub compileWork : ℕ → ℕ
-compileWork c = 16 * c
+compileWork c = 32 * c
 
 -- row 10, by lengths: a byte for each of c cells in both limit buffers, and the work
 abbrev pub tableRoom : ℕ → ℕ → ℕ → ℕ → Bool

@@ -1,20 +1,20 @@
 -- What is claimed: of joins, demand 2; of a table and all its stages, demand 3.
 use Prim.Native.Nat.{ℕ, _-_, _*_, _≤_, _<_}
 use mathlib.Core.Path.{_≡_}
-use mathlib.Core.Bool.{false}
+use mathlib.Core.Bool.{Bool, true, false}
 use mathlib.Core.List.{List}
 use mathlib.Core.Logic.{_⊎_, _↔_}
 use lib.Dec.{T}
 use lib.ListN.{length}
 use Rattle.rules.specs.declared.Gate.{Gate}
 use Rattle.rules.specs.Bytes.{at, tabulate}
-use Rattle.rules.specs.Cell.{Blind, Positive, cells, card, present, width, lowest, has}
+use Rattle.rules.specs.Cell.{Blind, Positive, cells, card, present, width, lowest, has, singleton}
 use Rattle.rules.specs.Shape.{maxConditions, maxCardinality, maxGrades, maxCells}
 use Rattle.rules.specs.Limits.{Limits}
 use Rattle.rules.specs.Join.{joinExists, firstLimits, secondLimits}
 use Rattle.rules.specs.Network.{Record, combine, networkBytes, networkRecords, networkSound, evaluate}
 use Rattle.rules.specs.Tree.{fixed, lookup, records}
-use Rattle.rules.specs.Stage.{Stage, left, split, joining, chosen, firstStage, secondStage, cofactorStage, computed, choiceTree, treeOf, wholeTable, compiled}
+use Rattle.rules.specs.Stage.{Stage, left, split, joining, chosen, weakly, tried, firstStage, secondStage, cofactorStage, computed, choiceTree, mayLeft, treeOf, wholeTable, compiled}
 
 -- grade q is within the limits of cell c
 abbrev pub Between : Limits → ℕ → ℕ → Type 0
@@ -60,15 +60,23 @@ pub record JoinExact (op : Gate) (ks : List ℕ) (m s t : ℕ) (l : Limits) : Ty
 
 -- Demand 3, stages.
 
--- the stages of the table whose first stage is x₀: that one, and every one that a stage among them starts
-pub data StageOf (m : ℕ) (x₀ : Stage) : Stage → Type 0 where
-  itself : StageOf m x₀ x₀
-  first-block : {x : Stage} (op : Gate) (s t : ℕ) → StageOf m x₀ x → 2 ≤ width (left x .ks) → chosen m (left x) ≡ joining op s t
-      → StageOf m x₀ (firstStage m op s t (left x))
-  second-block : {x : Stage} (op : Gate) (s t : ℕ) → StageOf m x₀ x → 2 ≤ width (left x .ks) → chosen m (left x) ≡ joining op s t
-      → StageOf m x₀ (secondStage m op s t (left x) (computed (left x .ks) (treeOf m (firstStage m op s t (left x)))))
-  cofactor : {x : Stage} (k : ℕ) → StageOf m x₀ x → 2 ≤ width (left x .ks) → chosen m (left x) ≡ split → k < card (left x .ks) (lowest (left x .ks))
-      → StageOf m x₀ (cofactorStage k (left x))
+-- The stages of the table whose first stage is x₀, and whether each may take a weak join: that one, and every one that a stage among
+-- them starts. Where no join exists a stage starts those of the split and those of the weak join that it tries; all of them count
+-- here, also those whose records are then not in the network.
+pub data StageOf (m : ℕ) (x₀ : Stage) : Bool → Stage → Type 0 where
+  itself : StageOf m x₀ true x₀
+  first-block : {may : Bool} {x : Stage} (op : Gate) (s t : ℕ) → StageOf m x₀ may x → 2 ≤ width (left x .ks) → chosen m (left x) ≡ joining op s t
+      → StageOf m x₀ true (firstStage m op s t (left x))
+  second-block : {may : Bool} {x : Stage} (op : Gate) (s t : ℕ) → StageOf m x₀ may x → 2 ≤ width (left x .ks) → chosen m (left x) ≡ joining op s t
+      → StageOf m x₀ true (secondStage m op s t (left x) (computed (left x .ks) (treeOf m true (firstStage m op s t (left x)))))
+  cofactor : {may : Bool} {x : Stage} (k : ℕ) → StageOf m x₀ may x → 2 ≤ width (left x .ks) → chosen m (left x) ≡ split → k < card (left x .ks) (lowest (left x .ks))
+      → StageOf m x₀ true (cofactorStage k (left x))
+  weak-first : {may : Bool} {x : Stage} (op : Gate) (i : ℕ) → StageOf m x₀ may x → 2 ≤ width (left x .ks)
+      → chosen m (left x) ≡ split → tried m (mayLeft may x) (left x) ≡ weakly op i
+      → StageOf m x₀ false (firstStage m op (singleton i) 0 (left x))
+  weak-second : {may : Bool} {x : Stage} (op : Gate) (i : ℕ) → StageOf m x₀ may x → 2 ≤ width (left x .ks)
+      → chosen m (left x) ≡ split → tried m (mayLeft may x) (left x) ≡ weakly op i
+      → StageOf m x₀ true (secondStage m op (singleton i) 0 (left x) (computed (left x .ks) (treeOf m false (firstStage m op (singleton i) 0 (left x)))))
 
 -- every condition of s is in t
 abbrev pub Subset : ℕ → ℕ → Type 0
@@ -93,7 +101,7 @@ pub record Admits (m : ℕ) (y : Stage) (op : Gate) (s t : ℕ) : Type 0 where
 
 -- the choice of a stage
 pub record Exact (m : ℕ) (y : Stage) : Type 0 where
-  -- a split exactly when no two sets admit a join by either gate
+  -- a split, or a weak join in its place, exactly when no two sets admit a join by either gate
   pub splits : (chosen m y ≡ split) ↔ ((op : Gate) (s t : ℕ) → Admits m y op s t → ⊥)
   -- the sets of a join admit it
   pub admitted : (op : Gate) (s t : ℕ) → chosen m y ≡ joining op s t → Admits m y op s t
@@ -101,16 +109,18 @@ pub record Exact (m : ℕ) (y : Stage) : Type 0 where
   pub largest : (op : Gate) (s t : ℕ) → chosen m y ≡ joining op s t
       → (s′ t′ : ℕ) → Subset s s′ → Subset t t′ → Larger s s′ ⊎ Larger t t′ → Admits m y op s′ t′ → ⊥
 
--- what a stage gives: step 2's record where none or one condition is left, else what its choice starts, and that choice is exact
-pub record Built (m : ℕ) (x : Stage) : Type 0 where
-  pub none-left : width (left x .ks) ≡ 0 → treeOf m x ≡ fixed (at (left x .limits .lower) 0)
+-- what a stage gives, which may take a weak join or not: step 2's record where none or one condition is left, else what its choice starts,
+-- and that choice is exact
+pub record Built (m : ℕ) (may : Bool) (x : Stage) : Type 0 where
+  pub none-left : width (left x .ks) ≡ 0 → treeOf m may x ≡ fixed (at (left x .limits .lower) 0)
   pub one-left : width (left x .ks) ≡ 1
-      → treeOf m x ≡ lookup (lowest (left x .ks)) (tabulate (card (left x .ks) (lowest (left x .ks))) (at (left x .limits .lower)))
-  pub more-left : 2 ≤ width (left x .ks) → Exact m (left x) × (treeOf m x ≡ choiceTree m (treeOf m) (chosen m (left x)) (left x))
+      → treeOf m may x ≡ lookup (lowest (left x .ks)) (tabulate (card (left x .ks) (lowest (left x .ks))) (at (left x .limits .lower)))
+  pub more-left : 2 ≤ width (left x .ks)
+      → Exact m (left x) × (treeOf m may x ≡ choiceTree m (treeOf m) (mayLeft may x) (chosen m (left x)) (left x))
 
 -- so in every stage of the table
 abbrev pub EveryStage : List ℕ → ℕ → Limits → Type 0
-EveryStage ks m l = (x : Stage) → StageOf m (wholeTable ks l) x → Built m x
+EveryStage ks m l = (may : Bool) (x : Stage) → StageOf m (wholeTable ks l) may x → Built m may x
 
 -- the records of a table's network
 abbrev pub compiledRecords : List ℕ → ℕ → Limits → List Record

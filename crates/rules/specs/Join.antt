@@ -7,8 +7,8 @@ use lib.Dec.{leb, ltb, eqb}
 use Rattle.rules.specs.declared.Gate.{Gate}
 use Rattle.rules.specs.declared.Gate.the-variants.{Min, Max}
 use Rattle.rules.specs.declared.Refusal.the-variants.{ShapeRange, GradeLimits, Sets, NoJoin, FirstBlock, ShortBuffer}
-use Rattle.rules.specs.Bytes.{pick, at, tabulate, all}
-use Rattle.rules.specs.Cell.{cells, present, has, agreeOutside, greatestOver, leastOver}
+use Rattle.rules.specs.Bytes.{pick, at, tabulate, all, some}
+use Rattle.rules.specs.Cell.{cells, present, has, singleton, agreeOutside, greatestOver, leastOver}
 use Rattle.rules.specs.Shape.{places, shapeSound}
 use Rattle.rules.specs.Limits.{Limits, limitsSound}
 use Rattle.rules.specs.Verdict.{Verdict, accepted, unless, roomy}
@@ -69,6 +69,14 @@ secondLimits op ks m s t l g =
     let x = exchangeFor op ks m l in
     exchangeFor op ks m
     (record { lower = lB ks s t (x .lower) (x .upper) (exchangeBlockFor op ks m g); upper = uB ks s t (x .lower) (x .upper) })
+
+-- Request 5: the weak join at condition i, with S = {i} and T empty. By max it counts when some cell has lower > 0 and lower ≤ uB
+abbrev pub maxCounts : List ℕ → ℕ → List ℕ → List ℕ → Bool
+maxCounts ks i l u = let b = uB ks (singleton i) 0 l u in some (cells ks) (λ c. ltb 0 (at l c) && leb (at l c) (at b c))
+
+-- by min, when the one by max does under the limits exchanged
+abbrev pub weakCounts : Gate → List ℕ → ℕ → ℕ → Limits → Bool
+weakCounts op ks m i l = let x = exchangeFor op ks m l in maxCounts ks i (x .lower) (x .upper)
 
 -- The join calls: the rows of "Places where a call stops" in their order.
 

@@ -19,6 +19,7 @@ pub mod Forecast
 pub mod Visits
 pub mod Small
 pub mod SmallForecasts
+pub mod SmallWeak
 pub mod SmallVisits
 pub mod Listing
 pub mod SmallListings

@@ -179,11 +179,11 @@ Small =
     ∷ gate Min 2 13
     ∷ [])
     -- compiling: work and network of just the lengths asked, a byte less of either, and the order of rows 4, 10, 5
-    × (compileE E 64 112 ≡ 0)
-    × (compileE E 63 112 ≡ 10)
-    × (compileE E 64 111 ≡ 10)
-    × (compileE (0 ∷ 1 ∷ 1 ∷ 1 ∷ []) 63 112 ≡ 10)
-    × (compileE (0 ∷ 1 ∷ 1 ∷ 1 ∷ []) 64 112 ≡ 5)
+    × (compileE E 128 112 ≡ 0)
+    × (compileE E 127 112 ≡ 10)
+    × (compileE E 128 111 ≡ 10)
+    × (compileE (0 ∷ 1 ∷ 1 ∷ 1 ∷ []) 127 112 ≡ 10)
+    × (compileE (0 ∷ 1 ∷ 1 ∷ 1 ∷ []) 128 112 ≡ 5)
     × (verdictNumber (compileCall 4 (cardBytes (8 ∷ 8 ∷ 8 ∷ 3 ∷ [])) 2 0 0 0 0 (limits [] [])) ≡ 4)
     -- reading: E's file, and one for each refusal, the order of rows 2, 3, 6, 5 among them
     × (judgeFile fileE ≡ accepted seenE)

@@ -1,6 +1,6 @@
--- 01, Stages: from a table to its network.
+-- 01, Stages, and request 5: from a table to its network.
 use Prim.Native.Nat.{ℕ, zero, suc, _+_, _-_, _*_, _/_, _%_}
-use mathlib.Core.Bool.{Bool, cond, not, _&&_, _||_}
+use mathlib.Core.Bool.{Bool, true, false, cond, not, _&&_, _||_}
 use mathlib.Core.List.{List, [], _∷_}
 use lib.Dec.{leb, ltb, eqb}
 use lib.ListN.{length}
@@ -9,8 +9,8 @@ use Rattle.rules.specs.declared.Gate.the-variants.{Min, Max}
 use Rattle.rules.specs.Bytes.{pick, at, tabulate, all, numbersFrom}
 use Rattle.rules.specs.Cell.{cells, card, present, width, lowest, value, has, insert, singleton, without, moved, greatestOver, leastOver}
 use Rattle.rules.specs.Limits.{Limits, each}
-use Rattle.rules.specs.Join.{joinExists, firstLimits, secondLimits}
-use Rattle.rules.specs.Tree.{Tree, fixed, lookup, gated, treeGrade}
+use Rattle.rules.specs.Join.{joinExists, firstLimits, secondLimits, weakCounts}
+use Rattle.rules.specs.Tree.{Tree, fixed, lookup, gated, treeGrade, size}
 
 -- a stage: its places, with cardinality 1 for each condition that it does not have, and the limits of its own cells
 pub record Stage : Type 0 where
@@ -100,7 +100,7 @@ abbrev pub groups : ℕ → Stage → Gate → Grouping
 groups m x op =
     grouping (present (x .ks)) (λ s t. joinExists op (x .ks) m s t (x .limits)) (numbersFrom 0 (length (x .ks)))
 
--- Step 4. A join by a gate at two sets, or a split
+-- Step 4. A join by a gate at two sets, or a split; a weak join can take the place of a split
 pub data Choice : Type 0 where
   split : Choice
   joining : Gate → ℕ → ℕ → Choice
@@ -143,40 +143,82 @@ cofactorStage k x =
 abbrev pub selector : ℕ → List ℕ → ℕ → Tree
 selector m ks k = lookup (lowest ks) (tabulate (card ks (lowest ks)) (λ v. pick (eqb v k) (m - 1) 0))
 
--- the tree of a stage, where `net` gives those of the stages with fewer conditions
-module _ (m : ℕ) (net : Stage → Tree) where
-  -- step 5
-  abbrev pub joinTree : Gate → ℕ → ℕ → Stage → Tree
-  joinTree op s t x =
-      let a : Tree = net (firstStage m op s t x) in
-      gated op a (net (secondStage m op s t x (computed (x .ks) a)))
+-- Request 5. A weak join by a gate at condition i, or none
+pub data Weak : Type 0 where
+  nowhere : Weak
+  weakly : Gate → ℕ → Weak
+
+-- the first that counts: conditions in the order given, max and then min
+abbrev pub firstWeak : (Gate → ℕ → Bool) → List ℕ → Weak
+firstWeak counts [] = nowhere
+firstWeak counts (i ∷ is) =
+    let later = firstWeak counts is in
+    cond (counts Max i) (weakly Max i) (cond (counts Min i) (weakly Min i) later)
+
+abbrev pub weakFound : ℕ → Stage → Weak
+weakFound m x = firstWeak (λ op i. present (x .ks) i && weakCounts op (x .ks) m i (x .limits)) (numbersFrom 0 (length (x .ks)))
+
+-- the one that is built, if the stage may take one
+abbrev pub tried : ℕ → Bool → Stage → Weak
+tried m may x = cond may (weakFound m x) nowhere
+
+-- the tree of a stage, where `net` gives those of the stages that it starts; `may`: whether a stage may take a weak join
+module _ (m : ℕ) (net : Bool → Stage → Tree) where
+  -- step 5; `may` is for the first block
+  abbrev pub joinTree : Bool → Gate → ℕ → ℕ → Stage → Tree
+  joinTree may op s t x =
+      let a : Tree = net may (firstStage m op s t x) in
+      gated op a (net true (secondStage m op s t x (computed (x .ks) a)))
 
   -- step 6, one value
   abbrev pub splitPart : Stage → ℕ → Tree
-  splitPart x k = gated Min (selector m (x .ks) k) (net (cofactorStage k x))
+  splitPart x k = gated Min (selector m (x .ks) k) (net true (cofactorStage k x))
 
   -- step 6, the values 0 to k
   abbrev pub splitTo : Stage → ℕ → Tree
   splitTo x zero = splitPart x 0
   splitTo x (suc k) = gated Max (splitTo x k) (splitPart x (suc k))
 
-  abbrev pub choiceTree : Choice → Stage → Tree
-  choiceTree split x = splitTo x (card (x .ks) (lowest (x .ks)) - 1)
-  choiceTree (joining op s t) x = joinTree op s t x
+  abbrev pub splitTree : Stage → Tree
+  splitTree x = splitTo x (card (x .ks) (lowest (x .ks)) - 1)
+
+  -- request 5, with S = {i} and T empty: the first block keeps all conditions, and may take no weak join
+  abbrev pub weakTree : Gate → ℕ → Stage → Tree
+  weakTree op i x = joinTree false op (singleton i) 0 x
+
+  -- a weak join is kept if it has fewer records than the split
+  abbrev pub fewest : Weak → Stage → Tree
+  fewest nowhere x = splitTree x
+  fewest (weakly op i) x =
+      let a : Tree = weakTree op i x in
+      let b : Tree = splitTree x in
+      cond (ltb (size a) (size b)) a b
+
+  abbrev pub choiceTree : Bool → Choice → Stage → Tree
+  choiceTree may split x = fewest (tried m may x) x
+  choiceTree may (joining op s t) x = joinTree true op s t x
 
   -- step 2, with no condition or one left; steps 3 to 6 with more
-  abbrev pub leftTree : ℕ → Stage → Tree
-  leftTree zero x = fixed (at (x .limits .lower) 0)
-  leftTree (suc zero) x = lookup (lowest (x .ks)) (tabulate (card (x .ks) (lowest (x .ks))) (at (x .limits .lower)))
-  leftTree (suc (suc n)) x = choiceTree (chosen m x) x
+  abbrev pub leftTree : Bool → ℕ → Stage → Tree
+  leftTree may zero x = fixed (at (x .limits .lower) 0)
+  leftTree may (suc zero) x = lookup (lowest (x .ks)) (tabulate (card (x .ks) (lowest (x .ks))) (at (x .limits .lower)))
+  leftTree may (suc (suc n)) x = choiceTree may (chosen m x) x
 
--- the tree of a stage of at most f conditions
-abbrev pub stageTree : ℕ → ℕ → Stage → Tree
-stageTree m zero x = fixed (at (x .limits .lower) 0)
-stageTree m (suc f) x = let y = left x in leftTree m (stageTree m f) (width (y .ks)) y
+-- a stage that has lost a condition may take a weak join again
+abbrev pub mayLeft : Bool → Stage → Bool
+mayLeft may x = may || ltb (width (left x .ks)) (width (x .ks))
 
-abbrev pub treeOf : ℕ → Stage → Tree
-treeOf m x = stageTree m (width (x .ks)) x
+-- a stage starts stages of a lower rank only: they have fewer conditions, or as many and may take no weak join
+abbrev pub rank : Bool → Stage → ℕ
+rank may x = 2 * width (x .ks) + pick may 1 0
+
+-- the tree of a stage of rank f at most
+abbrev pub stageTree : ℕ → ℕ → Bool → Stage → Tree
+stageTree m zero may x = fixed (at (x .limits .lower) 0)
+stageTree m (suc f) may x = let y = left x in leftTree m (stageTree m f) (mayLeft may x) (width (y .ks)) y
+
+abbrev pub treeOf : ℕ → Bool → Stage → Tree
+treeOf m may x = stageTree m (rank may x) may x
 
 -- the first stage of a table
 abbrev pub wholeTable : List ℕ → Limits → Stage
@@ -184,4 +226,4 @@ wholeTable ks l = record { ks = ks; limits = l }
 
 -- the network of a table
 abbrev pub compiled : List ℕ → ℕ → Limits → Tree
-compiled ks m l = treeOf m (wholeTable ks l)
+compiled ks m l = treeOf m true (wholeTable ks l)
