@@ -2,7 +2,7 @@
 use Prim.Native.Nat.{ℕ, _+_, _-_, _*_, _≤_, _<_}
 use mathlib.Core.Path.{_≡_, refl, sym, _∙_, ap, ap₂, subst}
 use mathlib.Core.List.{List, _++_}
-use mathlib.Core.Logic.{inl, inr, ⊎-elim}
+use mathlib.Core.Logic.{_⊎_, inl, inr, ⊎-elim}
 use native.Mathlib.Omega.{arith}
 use lib.ListN.{length, List·getD-append}
 use lib.Seq.{getD-append-add}
@@ -23,7 +23,7 @@ use Rattle.join_tables.proofs.HoldLaws.{laid-within, holds-part}
 use Rattle.join_tables.proofs.TurnLaws.{below-part}
 use Rattle.join_tables.proofs.StepLaws.{before, behind, above-below, grades-below}
 use Rattle.stage_drops.specs.Working.{Room}
-use Rattle.stage_blocks.specs.Blocks.{stageOf, Clear, Source, LimitsRoom, LimitsLaid, FirstRoom, FirstLaid, SecondRoom, SecondLaid, JoinedRoom, JoinedLaid}
+use Rattle.stage_blocks.specs.Blocks.{stageOf, Clear, Source, LimitsRoom, LimitsLaid, Standing, FirstRoom, FirstLaid, SecondRoom, SecondLaid, JoinedRoom, JoinedLaid}
 use Rattle.stage_drops.proofs.DropLaws.{fewer-shaped}
 
 -- a table laid with a count of cells, as the part of that many
@@ -50,6 +50,27 @@ laid-both {w} {w′} {s} {t} {a} {n} e f h l =
           f,
     )
 
+clear-front : {a n c : ℕ} → a + n ≤ 3 * c → Clear a n c
+clear-front h = record { aside = inl h }
+
+clear-back : {a n c : ℕ} → 4 * c ≤ a → a + n ≤ 7 * c → Clear a n c
+clear-back h i = record { aside = inr (h, i) }
+
+pub clear-inside : {a n c : ℕ} → Clear a n c → a + n ≤ 8 * c
+clear-inside h = ⊎-elim (λ x. omega arith) (λ x. let y = x .1 in omega arith) (h .aside)
+
+-- one of the two parts that limits may need
+abbrev Spare : ℕ → ℕ → Type 0
+Spare d c = (d ≡ 3 * c) ⊎ (d ≡ 7 * c)
+
+clear-apart : {w : List ℕ} {a k d c : ℕ} → 8 * c ≤ length w → Clear a k c → Spare d c → Apart w a k d c
+clear-apart r h (inl e) =
+    let i = clear-inside h in
+    record { src = omega arith; dst = omega arith; apart = ⊎-elim (λ x. inl (omega arith)) (λ x. let y = x .0 in inr (omega arith)) (h .aside) }
+clear-apart r h (inr e) =
+    let i = clear-inside h in
+    record { src = omega arith; dst = omega arith; apart = ⊎-elim (λ x. inl (omega arith)) (λ x. let y = x .1 in inl (omega arith)) (h .aside) }
+
 -- two tables moved to 8 × c
 module _ {w ks b : List ℕ} {c : ℕ} (r : LimitsRoom w ks b c) where
   ahead : {a n : ℕ} → a + n ≤ 8 * c → Apart w a n (8 * c) (2 * cells b)
@@ -66,7 +87,7 @@ module _ {w ks b : List ℕ} {c : ℕ} (r : LimitsRoom w ks b c) where
       let parts = laid-both (length-tabulateFrom _ 0 (cells b)) (length-tabulateFrom _ 0 (cells b)) (r .space) l in
       record {
         stage = ap₂ (λ (x y : List ℕ). stageOf b (limitsOf x y)) (parts .0) (parts .1);
-        kept = λ a n h. laid-apart (ahead (h .inside)) l;
+        kept = λ a n h. laid-apart (ahead (clear-inside h)) l;
         len = l .len;
       }
 
@@ -75,41 +96,30 @@ pub laid-gate : {gate g : Gate} {ks b w w′ : List ℕ} {c : ℕ} (m low high :
     → LimitsLaid ks b (exchangeFor gate ks m (stageAt ks w low high .limits)) c w w′
 laid-gate {ks = ks} {b} {w} {w′} {c} m low high e x = subst (λ (g : Gate). LimitsLaid ks b (exchangeFor g ks m (stageAt ks w low high .limits)) c w w′) (sym e) x
 
-clear-front : {a n c : ℕ} → a + n ≤ 3 * c → Clear a n c
-clear-front h = record { inside = omega arith; aside = inl h }
-
-clear-back : {a n c : ℕ} → 5 * c ≤ a → a + n ≤ 8 * c → Clear a n c
-clear-back h i = record { inside = i; aside = inr h }
-
-clear-apart : {w : List ℕ} {a k c : ℕ} (d n : ℕ) → 8 * c ≤ length w → Clear a k c → 3 * c ≤ d → d + n ≤ 5 * c → Apart w a k d n
-clear-apart d n r h lo hi =
-    let i = h .inside in
-    record { src = omega arith; dst = omega arith; apart = ⊎-elim (λ x. inl (omega arith)) (λ x. inr (omega arith)) (h .aside) }
-
 complement-part : {w w′ : List ℕ} (ks : List ℕ) (m from : ℕ) {to n : ℕ} → n ≡ cells ks → to + cells ks ≤ length w → Laid w to (tabulate n (λ k. m - 1 - at (part w from n) k)) n w′
     → part w′ to (cells ks) ≡ complement ks m (part w from (cells ks))
 complement-part {w} ks m from e h l = count-part (λ i. tabulate i (λ k. m - 1 - at (part w from i) k)) e h (length-tabulateFrom _ 0 (cells ks)) l
 
--- for min they are exchanged, in parts 3 and 4
+-- for min they are exchanged, in parts 3 and 7
 module _ {w ks b : List ℕ} {m c low high : ℕ} (r : LimitsRoom w ks b c) (lo : Source w low (cells ks) m c) (hi : Source w high (cells ks) m c) where
-  exchanging : {v : List ℕ} {a : ℕ} (d : ℕ) → length v ≡ length w → part v a c ≡ part w a c → Source w a (cells ks) m c → 3 * c ≤ d → d + c ≤ 5 * c
+  exchanging : {v : List ℕ} {a : ℕ} (d : ℕ) → length v ≡ length w → part v a c ≡ part w a c → Source w a (cells ks) m c → Spare d c
       → Two v a d c × ((k : ℕ) → k < c → at (part v a c) k ≤ m - 1)
-  exchanging {v} {a} d q p x low high =
+  exchanging {v} {a} d q p x s =
       let o = r .own .own in
       let u = r .own .room in
       let y : Source w a c m c = subst (λ (i : ℕ). Source w a i m c) (sym (r .own .own)) x in
-      (clear-apart d c (omega arith) (y .clear) low (omega arith), λ k h. rw p (below-part (y .grades) k h))
+      (clear-apart (omega arith) (y .clear) s, λ k h. rw p (below-part (y .grades) k h))
 
   pub exchange-upper : Two w high (3 * c) c × ((k : ℕ) → k < c → at (part w high c) k ≤ m - 1)
-  exchange-upper = exchanging (3 * c) refl refl hi (omega arith) (omega arith)
+  exchange-upper = exchanging (3 * c) refl refl hi (inl refl)
 
   module _ {w₁ : List ℕ} (l : Laid w (3 * c) (tabulate c (λ k. m - 1 - at (part w high c) k)) c w₁) where
-    pub exchange-lower : Two w₁ low (4 * c) c × ((k : ℕ) → k < c → at (part w₁ low c) k ≤ m - 1)
+    pub exchange-lower : Two w₁ low (7 * c) c × ((k : ℕ) → k < c → at (part w₁ low c) k ≤ m - 1)
     exchange-lower =
-        exchanging (4 * c) (l .len) (laid-apart (exchanging (3 * c) refl refl lo (omega arith) (omega arith) .0) l) lo (omega arith) (omega arith)
+        exchanging (7 * c) (l .len) (laid-apart (exchanging (3 * c) refl refl lo (inl refl) .0) l) lo (inr refl)
 
-    module _ {w₂ : List ℕ} (j : Laid w₁ (4 * c) (tabulate c (λ k. m - 1 - at (part w₁ low c) k)) c w₂) where
-      pub exchanged-room : LimitsRoom w₂ ks b c × (3 * c + cells ks ≤ 8 * c) × (4 * c + cells ks ≤ 8 * c)
+    module _ {w₂ : List ℕ} (j : Laid w₁ (7 * c) (tabulate c (λ k. m - 1 - at (part w₁ low c) k)) c w₂) where
+      pub exchanged-room : LimitsRoom w₂ ks b c × (3 * c + cells ks ≤ 8 * c) × (7 * c + cells ks ≤ 8 * c)
       exchanged-room =
           let o = r .own .own in
           let u = r .own .room in
@@ -118,23 +128,37 @@ module _ {w ks b : List ℕ} {m c low high : ℕ} (r : LimitsRoom w ks b c) (lo 
           let q = j .len in
           (record { own = record { shaped = r .own .shaped; own = o; room = omega arith }; shaped = r .shaped; space = omega arith }, omega arith, omega arith)
 
-      pub laid-min : {w₃ : List ℕ} → LimitsLaid ks b (stageAt ks w₂ (3 * c) (4 * c) .limits) c w₂ w₃
+      pub laid-min : {w₃ : List ℕ} → LimitsLaid ks b (stageAt ks w₂ (3 * c) (7 * c) .limits) c w₂ w₃
           → LimitsLaid ks b (exchange ks m (stageAt ks w low high .limits)) c w w₃
       laid-min x =
           let o = r .own .own in
           let u = r .own .room in
           let p = l .len in
-          let stays : (a k : ℕ) → Clear a k c → part w₁ a k ≡ part w a k = λ a k h. laid-apart (clear-apart (3 * c) c u h (omega arith) (omega arith)) l in
+          let stays : (a k : ℕ) → Clear a k c → part w₁ a k ≡ part w a k = λ a k h. laid-apart (clear-apart u h (inl refl)) l in
           let lower : part w₂ (3 * c) (cells ks) ≡ complement ks m (part w high (cells ks)) =
-          laid-apart (before (3 * c) (cells ks) (4 * c) c (omega arith) (omega arith)) j
+          laid-apart (before (3 * c) (cells ks) (7 * c) c (omega arith) (omega arith)) j
           ∙ complement-part ks m high (r .own .own) (omega arith) l in
-          let upper : part w₂ (4 * c) (cells ks) ≡ complement ks m (part w low (cells ks)) =
+          let upper : part w₂ (7 * c) (cells ks) ≡ complement ks m (part w low (cells ks)) =
           complement-part ks m low (r .own .own) (omega arith) j ∙ ap (complement ks m) (stays low (cells ks) (lo .clear)) in
           record {
             stage = x .stage ∙ ap₂ (λ (y z : List ℕ). stageOf b (each (moved ks b) (limitsOf y z))) lower upper;
-            kept = λ a k h. x .kept a k h ∙ laid-apart (clear-apart (4 * c) c (omega arith) h (omega arith) (omega arith)) j ∙ stays a k h;
+            kept = λ a k h. x .kept a k h ∙ laid-apart (clear-apart (omega arith) h (inr refl)) j ∙ stays a k h;
             len = x .len ∙ j .len ∙ p;
           }
+
+-- what stands after two steps, after a table laid beside it, and after limits laid
+pub standing-trans : {c : ℕ} {w v w′ : List ℕ} → Standing c w v → Standing c v w′ → Standing c w w′
+standing-trans p q = record { lows = q .lows ∙ p .lows; aside = q .aside ∙ p .aside }
+
+laid-standing : {w w′ t : List ℕ} {c a n : ℕ} → 8 * c ≤ length w → a + n ≤ length w → c ≤ a → (a + n ≤ 4 * c) ⊎ (6 * c ≤ a) → Laid w a t n w′ → Standing c w w′
+laid-standing {c = c} {a} {n} r h le s l =
+    record {
+      lows = laid-apart (before 0 c a n (omega arith) h) l;
+      aside = laid-apart (record { src = omega arith; dst = h; apart = ⊎-elim (λ x. inr x) (λ x. inl (omega arith)) s }) l;
+    }
+
+limits-standing : {ks b w w′ : List ℕ} {i : Limits} {c : ℕ} → LimitsLaid ks b i c w w′ → Standing c w w′
+limits-standing {c = c} x = record { lows = x .kept 0 c (clear-front (omega arith)); aside = x .kept (4 * c) (2 * c) (clear-back (omega arith) (omega arith)) }
 
 -- where the places without a set are laid
 limits-room : {w w₁ ks b : List ℕ} {c : ℕ} (t : ℕ) → Room w ks c → 8 * c + 2 * cells (without t ks) ≤ length w → length w₁ ≡ length w → b ≡ without t ks → LimitsRoom w₁ ks b c
@@ -205,6 +229,7 @@ module _ {w ks : List ℕ} {m t c : ℕ} (r : FirstRoom w ks m t c) where
                 lows = x .kept 0 (cells ks) (clear-front (omega arith)) ∙ stays 0 (omega arith) ∙ f .lows;
                 seconds = sym (there w₂ (λ i. i) (r .own .own)) ∙ x .kept c (cells ks) (clear-front (omega arith)) ∙ stays c (omega arith) ∙ there w (λ i. i) (r .own .own) ∙ f .seconds;
               };
+          standing = standing-trans (laid-standing u (omega arith) (omega arith) (inr (omega arith)) l) (limits-standing x);
           len = x .len ∙ l .len;
         }
 
@@ -283,6 +308,10 @@ module _ {w ks a : List ℕ} {m s c : ℕ} (r : SecondRoom w ks a m s c) where
               first =
                   x .kept (6 * c) (cells ks) (clear-back (omega arith) (omega arith)) ∙ laid-apart (behind (6 * c) (cells ks) (2 * c) c (omega arith) (omega arith)) l₃
                   ∙ laid-apart (before (6 * c) (cells ks) (7 * c) c (omega arith) (omega arith)) l₂ ∙ first-block;
+              standing =
+                  standing-trans (laid-standing v (omega arith) (omega arith) (inr (omega arith)) l₁)
+                  (standing-trans (laid-standing (omega arith) (omega arith) (omega arith) (inr (omega arith)) l₂)
+                  (standing-trans (laid-standing (omega arith) (omega arith) (omega arith) (inl (omega arith)) l₃) (limits-standing x)));
               len = x .len ∙ l₃ .len ∙ q₂ ∙ q₁;
             }
 
@@ -310,5 +339,6 @@ module _ {w ks b : List ℕ} {c : ℕ} (r : JoinedRoom w ks b c) where
               ∙ ap₂ (λ (x y : List ℕ). tabulate (cells ks) (λ k. combine gate (at x k) (at y k)))
               (laid-apart (before (6 * c) (cells ks) (7 * c) (cells ks) (omega arith) (omega arith)) l)
               (laid-part l (omega arith) (length-tabulateFrom _ 0 (cells ks)));
+          aside = laid-apart (behind (4 * c) (2 * c) 0 c (omega arith) (omega arith)) j ∙ laid-standing u (omega arith) (omega arith) (inr (omega arith)) l .aside;
           len = j .len ∙ q;
         }

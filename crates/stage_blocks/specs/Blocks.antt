@@ -17,10 +17,9 @@ use Rattle.stage_drops.specs.Working.{Room, ForSecond, ForBoth}
 abbrev pub stageOf : List ℕ → Limits → Stage
 stageOf ks l = record { ks = ks; limits = l }
 
--- a part that stays when limits are laid: these may need parts 3 and 4
+-- a part that stays when limits are laid: these may need parts 3 and 7
 pub record Clear (a n c : ℕ) : Type 0 where
-  pub inside : a + n ≤ 8 * c
-  pub aside : (a + n ≤ 3 * c) ⊎ (5 * c ≤ a)
+  pub aside : (a + n ≤ 3 * c) ⊎ ((4 * c ≤ a) × (a + n ≤ 7 * c))
 
 -- grades in such a part
 pub record Source (w : List ℕ) (a n m c : ℕ) : Type 0 where
@@ -39,6 +38,11 @@ pub record LimitsLaid (ks b : List ℕ) (l : Limits) (c : ℕ) (w w′ : List �
   pub kept : (a n : ℕ) → Clear a n c → part w′ a n ≡ part w a n
   pub len : length w′ ≡ length w
 
+-- part 0 and parts 4 and 5 are as they were: a join leaves them standing until its own function is made
+pub record Standing (c : ℕ) (w w′ : List ℕ) : Type 0 where
+  pub lows : part w′ 0 c ≡ part w 0 c
+  pub aside : part w′ (4 * c) (2 * c) ≡ part w (4 * c) (2 * c)
+
 -- a buffer from which the first block's table can be made
 pub record FirstRoom (w ks : List ℕ) (m t c : ℕ) : Type 0 where
   pub own : Room w ks c
@@ -52,6 +56,7 @@ pub record FirstLaid (gate : Gate) (m : ℕ) (ks : List ℕ) (t c : ℕ) (w r w�
   pub places : r ≡ without t ks
   pub stage : (s : ℕ) (l : Limits) → ForBoth gate m (stageOf ks l) s t w → stageAt r w′ (8 * c) (8 * c + cells r) ≡ firstStage m gate s t (stageOf ks l)
   pub second : (s : ℕ) (l : Limits) → ForSecond gate m (stageOf ks l) s t w → ForSecond gate m (stageOf ks l) s t w′
+  pub standing : Standing c w w′
   pub len : length w′ ≡ length w
 
 -- a buffer from which the second block's table can be made, the first block's function being at 8 × c, over the places a
@@ -71,6 +76,7 @@ pub record SecondLaid (gate : Gate) (m : ℕ) (ks a : List ℕ) (s c : ℕ) (w r
   pub stage : (t : ℕ) (l : Limits) → ForSecond gate m (stageOf ks l) s t w
       → stageAt r w′ (8 * c) (8 * c + cells r) ≡ secondStage m gate s t (stageOf ks l) (moved a ks (part w (8 * c) (cells a)))
   pub first : part w′ (6 * c) (cells ks) ≡ moved a ks (part w (8 * c) (cells a))
+  pub standing : Standing c w w′
   pub len : length w′ ≡ length w
 
 -- a buffer with the second block's function at 8 × c, over the places b
@@ -79,8 +85,9 @@ pub record JoinedRoom (w ks b : List ℕ) (c : ℕ) : Type 0 where
   pub shaped : Shaped b
   pub block : 8 * c + cells b ≤ length w
 
--- the join's function stands in part 0
+-- the join's function stands in part 0, and parts 4 and 5 are as they were
 pub record JoinedLaid (gate : Gate) (ks b : List ℕ) (c : ℕ) (w w′ : List ℕ) : Type 0 where
   pub here : part w′ 0 (cells ks)
       ≡ tabulate (cells ks) (λ k. combine gate (at (part w (6 * c) (cells ks)) k) (at (moved b ks (part w (8 * c) (cells b))) k))
+  pub aside : part w′ (4 * c) (2 * c) ≡ part w (4 * c) (2 * c)
   pub len : length w′ ≡ length w

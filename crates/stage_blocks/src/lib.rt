@@ -20,7 +20,7 @@ fn lay(w: &mut [u8], ks: [u8; PLACES], b: [u8; PLACES], n: usize, low: usize, hi
     moves::moved_both(w, ks, b, n, low, high, 8 * c);
 }
 
-// The same, the limits being exchanged for min: parts 3 and 4 are then lost.
+// The same, the limits being exchanged for min: parts 3 and 7 are then lost.
 fn lay_limits(
     w: &mut [u8],
     gate: Gate,
@@ -39,14 +39,14 @@ fn lay_limits(
         Gate::Max => lay(w, ks, b, n, low, high, c),
         Gate::Min => {
             fill::complement(w, m - 1, high, 3 * c, c);
-            fill::complement(w, m - 1, low, 4 * c, c);
-            lay(w, ks, b, n, 3 * c, 4 * c, c);
+            fill::complement(w, m - 1, low, 7 * c, c);
+            lay(w, ks, b, n, 3 * c, 7 * c, c);
         }
     }
 }
 
-// The first block's table, from what was prepared for it: its places, and how many cells these have. Parts 0 and 1
-// stay.
+// The first block's table, from what was prepared for it: its places, and how many cells these have. Parts 0, 1, 4
+// and 5 stay.
 pub fn first_table(w: &mut [u8], gate: Gate, m: u8, ks: [u8; PLACES], t: u8, c: usize) -> Left
     requires { ⌜ FirstRoom (now w) ks m t c ⌝ }
     ensures { λ r. ⌜ FirstLaid gate m ks t c (now (w .entry)) (r .places) (now (w .exit)) × (r .cells ≡ cells (r .places)) ⌝ }
@@ -61,7 +61,7 @@ pub fn first_table(w: &mut [u8], gate: Gate, m: u8, ks: [u8; PLACES], t: u8, c: 
     }
 }
 
-// The second block's table, given the first block's function at 8 × c, over the places a.
+// The second block's table, given the first block's function at 8 × c, over the places a. Parts 0, 4 and 5 stay.
 pub fn second_table(
     w: &mut [u8],
     gate: Gate,
@@ -86,7 +86,8 @@ pub fn second_table(
     }
 }
 
-// The join's function, from the first block's in part 6 and the second's at 8 × c, over the places b.
+// The join's function, from the first block's in part 6 and the second's at 8 × c, over the places b. Parts 4
+// and 5 stay.
 pub fn joined(w: &mut [u8], gate: Gate, ks: [u8; PLACES], b: [u8; PLACES], c: usize)
     requires { ⌜ JoinedRoom (now w) ks b c ⌝ }
     ensures { λ _. ⌜ JoinedLaid gate ks b c (now (w .entry)) (now (w .exit)) ⌝ }

@@ -1,6 +1,6 @@
 -- `stage_blocks::lay_limits` meets its contract.
 use borrow.Author.Needs.{needs}
-use Rattle.stage_blocks.proofs.BlockLaws.{exchange-upper, exchange-lower, exchanged-room, laid-gate, laid-min}
+use Rattle.stage_blocks.proofs.BlockLaws.{clear-inside, exchange-upper, exchange-lower, exchanged-room, laid-gate, laid-min}
 use Rattle.stage_blocks.proofs.lay_limits.Statement.{statement}
 use Rattle.stage_blocks.proofs.lay_limits.Tie as tie
 
@@ -8,7 +8,7 @@ enum-told : tie.Need-enum-told
 enum-told c = search needs
 
 lay-requires : tie.Need-lay-requires
-lay-requires c κs = search needs
+lay-requires c κs = let p = c .before .before .before .before .pre in (p .0, p .1, clear-inside (p .3 .clear), clear-inside (p .4 .clear))
 
 enum-told-2 : tie.Need-enum-told-2
 enum-told-2 c = search needs
