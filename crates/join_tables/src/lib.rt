@@ -49,7 +49,7 @@ fn exchange(w: &mut [u8], gate: Gate, m: u8, from: usize, to: usize, n: usize)
 }
 
 // The extreme over a set of the table at `to`, in its place.
-fn over_part(w: &mut [u8], greatest: bool, ks: [u8; PLACES], set: u8, to: usize, n: usize)
+pub fn over_part(w: &mut [u8], greatest: bool, ks: [u8; PLACES], set: u8, to: usize, n: usize)
     requires { ⌜ Shaped ks × (n ≡ cells ks) × (to + n ≤ length (now w)) ⌝ }
     ensures { λ _. ⌜ Laid (now (w .entry)) to (over (best greatest) ks set (part (now (w .entry)) to n)) n (now (w .exit)) ⌝ }
 {

@@ -1,0 +1,4 @@
+-- What the contracts of `weak_joins` cite.
+pub mod Trying
+pub mod Opening
+pub mod Keeping
