@@ -4,3 +4,4 @@ pub mod ChildLaws
 pub mod LentLaws
 pub mod SplitStageLaws
 pub mod StageEndLaws
+pub mod WeakStageLaws

@@ -15,7 +15,7 @@ use Rattle.rules.specs.Bytes.{at, pick, tabulate}
 use Rattle.rules.specs.Cell.{cells, card, width, lowest, value, remap, singleton, without}
 use Rattle.rules.specs.Limits.{Limits}
 use Rattle.rules.specs.Tree.{Tree, lookup, gated, size}
-use Rattle.rules.specs.Stage.{Stage, split, cofactorStage, computed, selector, splitPart, splitTo, choiceTree, treeOf}
+use Rattle.rules.specs.Stage.{Stage, cofactorStage, computed, selector, splitPart, splitTo, splitTree, treeOf}
 use Rattle.laws.proofs.TestLaws.{by-order}
 use Rattle.laws.proofs.TableLaws.{length-tabulateFrom}
 use Rattle.laws.proofs.CellLaws.{value-lt, cell-lt, present-lt, without-pos}
@@ -37,14 +37,14 @@ use Rattle.stage_steps.specs.Values.{ValueRoom, ValueBegun, KeepRoom, EndRoom, 
 use Rattle.stage_steps.specs.Wanting.{Wanted}
 use Rattle.stage_steps.proofs.WantLaws.{wanted-both, wanted-length}
 use Rattle.stage_steps.proofs.ExtentLaws.{gate-room, gate-extent, tree-gate}
-use Rattle.stages.specs.Staging.{Starts, Written, Splits}
+use Rattle.stages.specs.Staging.{Starts, Written, Smaller, Splits, Divided}
 use Rattle.stages.proofs.LentLaws.{rest, rest-part, Back}
-use Rattle.stages.proofs.ChildLaws.{proper-ready, written-as, Smaller, Lent, falls, child-stage, child-starts, child-back, child-function}
+use Rattle.stages.proofs.ChildLaws.{proper-ready, written-as, smaller-behind, stageRank, rank-fewer, Lent, child-stage, child-starts, child-back, child-function}
 
 -- the tree of the values up to k, and of those before it
 module _ (m : ℕ) (x : Stage) where
   abbrev child : ℕ → Tree
-  child k = treeOf m (cofactorStage k x)
+  child k = treeOf m true (cofactorStage k x)
 
   abbrev pub part-tree : ℕ → Tree
   part-tree k = splitPart m (treeOf m) x k
@@ -119,7 +119,7 @@ pub record Turn (m : ℕ) (ks : List ℕ) (c : ℕ) (want : Bool) (w₀ net₀ :
   pub so-far : SoFar m (frontStage ks w₀) net₀ r k total net
   pub front : (j : ℕ) → j < 4 * c → at w j ≡ at w₀ j
   pub done : want ≡ true → (q j : ℕ) → q < k → j < cells (without (singleton (lowest ks)) ks)
-      → at w (4 * c + q + card ks (lowest ks) * j) ≡ at (computed (without (singleton (lowest ks)) ks) (treeOf m (cofactorStage q (frontStage ks w₀)))) j
+      → at w (4 * c + q + card ks (lowest ks) * j) ≡ at (computed (without (singleton (lowest ks)) ks) (treeOf m true (cofactorStage q (frontStage ks w₀)))) j
   pub len : length w ≡ length w₀
 
 pub turn-none : (m : ℕ) (ks : List ℕ) (c : ℕ) (want : Bool) (w net : List ℕ) (r : ℕ) → Turn m ks c want w net r 0 (record { next = r; depth = 0 }) w net
@@ -149,10 +149,10 @@ module _ {m : ℕ} {ks : List ℕ} {c : ℕ} {w₀ : List ℕ} {r : ℕ} (h : Sp
   v = card ks (lowest ks)
 
   ready : Ready m x
-  ready = proper-ready (h .left .own .shaped .some) (h .left .proper)
+  ready = proper-ready (h .whole .left .own .shaped .some) (h .whole .left .proper)
 
   some : 1 ≤ width ks
-  some = let w = h .left .wide in omega arith
+  some = let w = h .whole .left .wide in omega arith
 
   small : Smaller ks (singleton (lowest ks))
   small =
@@ -174,7 +174,7 @@ module _ {m : ℕ} {ks : List ℕ} {c : ℕ} {w₀ : List ℕ} {r : ℕ} (h : Sp
         record {
           index = is .number;
           places = p;
-          count = ap₂ (λ (x y : ℕ). x / y) (h .left .own .own) (is .values) ∙ lowest-div ks (ready .pos) some ∙ ap cells (sym p);
+          count = ap₂ (λ (x y : ℕ). x / y) (h .whole .left .own .own) (is .values) ∙ lowest-div ks (ready .pos) some ∙ ap cells (sym p);
           cardinality = is .values;
         }
 
@@ -196,10 +196,10 @@ module _ {m : ℕ} {ks : List ℕ} {c : ℕ} {w₀ : List ℕ} {r : ℕ} (h : Sp
 
       pub value-room : ValueRoom w n values c k (total .next)
       value-room =
-          let f = h .left .few (lowest ks) in
+          let f = h .whole .left .few (lowest ks) in
           let q = a .cardinality in
-          let o = h .left .own .own in
-          let s = h .left .work in
+          let o = h .whole .left .own .own in
+          let s = h .whole .left .work in
           let d = u .len in
           let g = part-few in
           let p = small .half in
@@ -216,18 +216,18 @@ module _ {m : ℕ} {ks : List ℕ} {c : ℕ} {w₀ : List ℕ} {r : ℕ} (h : Sp
         table-at q l =
             ap (λ (z : ℕ). part w₁ (8 * c + q * z) z) (sym cell-count) ∙ g .tables q l
             ∙ cofactored-as ks (part w (q * c) (values * n)) n values k cell-count (a .cardinality)
-            ∙ ap (cofactored ks k) (ap₂ (λ (y z : ℕ). part w (q * y) z) (h .left .own .own) all-cells ∙ same)
+            ∙ ap (cofactored ks k) (ap₂ (λ (y z : ℕ). part w (q * y) z) (h .whole .left .own .own) all-cells ∙ same)
           where
             same : part w (q * cells ks) (cells ks) ≡ part w₀ (q * cells ks) (cells ks)
             same =
-                let o = h .left .own .own in
-                let s = h .left .work in
+                let o = h .whole .left .own .own in
+                let s = h .whole .left .work in
                 let e : suc q * cells ks ≤ 4 * cells ks = mul-le-mul-right (cells ks) l in
                 let f = suc-mul q (cells ks) in
                 part-same w₀ w (q * cells ks) (cells ks) (omega arith) (u .len) (λ j lj. u .front (q * cells ks + j) (omega arith))
 
-        value-lent : Lent m x c w₀ (singleton (lowest ks)) b₀ w₁
-        value-lent = record { left = h .left; small = small; places = a .places; len = length-one }
+        value-lent : Lent m x c w₀ (singleton (lowest ks)) true b₀ w₁
+        value-lent = record { left = h .whole .left; room = smaller-behind (singleton (lowest ks)) (h .whole .left) small; places = a .places; len = length-one }
 
         value-stage : stageAt b₀ (rest (8 * c) w₁) 0 (cells b₀) ≡ cofactorStage k x
         value-stage =
@@ -247,28 +247,28 @@ module _ {m : ℕ} {ks : List ℕ} {c : ℕ} {w₀ : List ℕ} {r : ℕ} (h : Sp
             subst (λ (p : List ℕ). Known m p (rest (8 * c) w₁)) (sym (a .places))
             (known-split k (ready .pos) some (let y = a .cardinality in omega arith) (rest (8 * c) w₁)
             (λ q l.
-            let o = h .left .own .own in
-            let s = h .left .work in
+            let o = h .whole .left .own .own in
+            let s = h .whole .left .work in
             let d = length-one in
             let e : suc q * cells b ≤ 4 * cells b = mul-le-mul-right (cells b) l in
             let f = suc-mul q (cells b) in
             let p = small .half in
             rest-part (8 * c) (q * cells b) (cells b) w₁ (omega arith) ∙ table-at q l)
-            (h .masks))
+            (h .whole .masks))
 
-        pub value-fewer : 2 * width b₀ + 1 < 2 * width ks
-        value-fewer = falls value-lent
+        pub value-falls : stageRank true b₀ < 16 * width ks
+        value-falls = rank-fewer true b₀ ks (let e = ap width (a .places) in let f = small .fewer in omega arith)
 
-        pub value-starts : Starts m b₀ n true (rest (8 * c) w₁) (literal .next)
+        pub value-starts : Starts m b₀ n true true (rest (8 * c) w₁) (literal .next)
         value-starts =
             let y = a .cardinality in
             child-starts value-lent (cofactorStage k x .limits) (a .count) value-stage (cofactor-ready x (ready .pos) some k m ready (omega arith)) (λ e. value-known)
             (let z = part-few in let f = g .put .extent .next in omega arith)
 
         -- its stage is done
-        module _ {v′ net₂ : List ℕ} {of : Extent} (y : Written b₀ (treeOf m (stageAt b₀ (rest (8 * c) w₁) 0 (cells b₀))) want (rest (8 * c) w₁) net₁ (literal .next) of v′ net₂) where
-          child-done : Written b (treeOf m (cofactorStage k x)) want (rest (8 * c) w₁) net₁ (literal .next) of v′ net₂
-          child-done = written-as m (cofactorStage k x) value-stage y
+        module _ {v′ net₂ : List ℕ} {of : Extent} (y : Written b₀ (treeOf m true (stageAt b₀ (rest (8 * c) w₁) 0 (cells b₀))) 0 want (rest (8 * c) w₁) net₁ (literal .next) of v′ net₂) where
+          child-done : Written b (treeOf m true (cofactorStage k x)) 0 want (rest (8 * c) w₁) net₁ (literal .next) of v′ net₂
+          child-done = written-as m true (cofactorStage k x) value-stage y
 
           selected : TreePut (selector m ks k) net (total .next) literal net₁
           selected =
@@ -287,8 +287,8 @@ module _ {m : ℕ} {ks : List ℕ} {c : ℕ} {w₀ : List ℕ} {r : ℕ} (h : Sp
 
             pub value-keep : KeepRoom w₂ n values c k
             value-keep =
-                let o = h .left .own .own in
-                let s = h .left .work in
+                let o = h .whole .left .own .own in
+                let s = h .whole .left .work in
                 let d = length-two in
                 let p = small .half in
                 let q = cell-count in
@@ -299,7 +299,7 @@ module _ {m : ℕ} {ks : List ℕ} {c : ℕ} {w₀ : List ℕ} {r : ℕ} (h : Sp
             before-child : (j : ℕ) → j < 8 * c → at w₂ j ≡ at w j
             before-child j l = z .front j l ∙ g .before j l
 
-            child-table : want ≡ true → (j : ℕ) → j < cells b → at (part w₂ (8 * c) n) j ≡ at (computed b (treeOf m (cofactorStage k x))) j
+            child-table : want ≡ true → (j : ℕ) → j < cells b → at (part w₂ (8 * c) n) j ≡ at (computed b (treeOf m true (cofactorStage k x))) j
             child-table e j l = ap (λ (f : List ℕ). at f j) (ap (part w₂ (8 * c)) (a .count) ∙ child-function value-lent z (child-done .function e))
 
             -- its function is spread over the cells with value k, where it is wanted
@@ -310,7 +310,7 @@ module _ {m : ℕ} {ks : List ℕ} {c : ℕ} {w₀ : List ℕ} {r : ℕ} (h : Sp
               other-value : want ≡ true → (q j : ℕ) → q < k → j < cells b → at w₃ (4 * c + q + v * j) ≡ at w (4 * c + q + v * j)
               other-value e q j l lj =
                   let y = a .cardinality in
-                  let o = h .left .own .own in
+                  let o = h .whole .left .own .own in
                   let t : q + v * j < cells ks = cofactor-lt x (ready .pos) some q j (omega arith) lj in
                   f .on e .off (4 * c + q + v * j)
                   (λ i li e.
@@ -321,7 +321,7 @@ module _ {m : ℕ} {ks : List ℕ} {c : ℕ} {w₀ : List ℕ} {r : ℕ} (h : Sp
                   omega arith)
                   ∙ before-child (4 * c + q + v * j) (omega arith)
 
-              this-value : want ≡ true → (j : ℕ) → j < cells b → at w₃ (4 * c + k + v * j) ≡ at (computed b (treeOf m (cofactorStage k x))) j
+              this-value : want ≡ true → (j : ℕ) → j < cells b → at w₃ (4 * c + k + v * j) ≡ at (computed b (treeOf m true (cofactorStage k x))) j
               this-value e j l =
                   let n = cell-count in
                   ap (λ (p : ℕ). at w₃ (4 * c + k + p * j)) (sym (a .cardinality)) ∙ f .on e .on j (omega arith) ∙ child-table e j l
@@ -333,34 +333,32 @@ module _ {m : ℕ} {ks : List ℕ} {c : ℕ} {w₀ : List ℕ} {r : ℕ} (h : Sp
                     front = λ j l. off-line j l ∙ u .front j l;
                     done =
                         λ e q j l lt.
-                        below-more (λ (q : ℕ). at w₃ (4 * c + q + v * j) ≡ at (computed b (treeOf m (cofactorStage q x))) j) k
+                        below-more (λ (q : ℕ). at w₃ (4 * c + q + v * j) ≡ at (computed b (treeOf m true (cofactorStage q x))) j) k
                         (λ q l. other-value e q j l lt ∙ u .done e q j l lt) (this-value e j lt) q l;
                     len = wanted-length f (λ s. s .len) ∙ length-two;
                   }
 
-    -- all values done, and their functions copied to the front
+    -- all values done
     module _ {want : Bool} {net₀ : List ℕ} {k : ℕ} {total : Extent} {w net : List ℕ} (u : Turn m ks c want w₀ net₀ r k total w net) (e : k ≡ values) where
-      pub collect-room : 5 * c ≤ length w
-      collect-room = let s = h .left .work in let d = u .len in omega arith
-
-      pub split-whole : {w′ : List ℕ} → Wanted want (Laid w 0 (part w (4 * c) c) c) w w′ → Written ks (choiceTree m (treeOf m) split x) want w₀ net₀ r total w′ net
-      split-whole {w′} l =
+      pub split-whole : Divided m ks c want w₀ net₀ r total w net
+      split-whole =
           let d = a .cardinality in
           record {
-            put =
-                subst (λ (q : ℕ). TreePut (up-to m x (q - 1)) net₀ r total net) (e ∙ d)
-                (u .so-far .some (let t = lowest-two ks (ready .pos) some in omega arith));
-            function = λ q.
-                let s = collect-room in
-                let o = h .left .own .own in
-                ap (part w′ 0) (sym o) ∙ laid-part (l .on q) (omega arith) (part-length w (4 * c) c (omega arith)) ∙ ap (part w (4 * c)) o ∙ all-values q;
-            len = wanted-length l (λ s. s .len) ∙ u .len;
+            written =
+                record {
+                  put =
+                      subst (λ (q : ℕ). TreePut (up-to m x (q - 1)) net₀ r total net) (e ∙ d)
+                      (u .so-far .some (let t = lowest-two ks (ready .pos) some in omega arith));
+                  function = all-values;
+                  len = u .len;
+                };
+            front = u .front;
           }
         where
-          all-values : want ≡ true → part w (4 * c) (cells ks) ≡ computed ks (choiceTree m (treeOf m) split x)
+          all-values : want ≡ true → part w (4 * c) (cells ks) ≡ computed ks (splitTree m (treeOf m) x)
           all-values wanted =
-              let o = h .left .own .own in
-              let s = h .left .work in
+              let o = h .whole .left .own .own in
+              let s = h .whole .left .work in
               let d = u .len in
               let n = part-length w (4 * c) (cells ks) (omega arith) in
               ext-getD 0 _ _ (n ∙ sym (length-tabulateFrom _ 0 (cells ks)))
@@ -374,4 +372,25 @@ module _ {m : ℕ} {ks : List ℕ} {c : ℕ} {w₀ : List ℕ} {r : ℕ} (h : Sp
               let f : 4 * c + q ≡ 4 * c + digit + v * other = omega arith in
               let t = a .cardinality in
               part-at w (4 * c) (cells ks) q lq ∙ ap (at w) f ∙ u .done wanted digit other (omega arith) lo
-              ∙ sym (splitted m x ready some digit other ld lo) ∙ ap (at (computed ks (choiceTree m (treeOf m) split x))) back)
+              ∙ sym (splitted m x ready some digit other ld lo) ∙ ap (at (computed ks (splitTree m (treeOf m) x))) back)
+
+-- a function in part 4, copied to the front where it is wanted
+pub collected : (ks : List ℕ) {c : ℕ} {want : Bool} {w w′ f : List ℕ} → c ≡ cells ks → 5 * c ≤ length w → Wanted want (Laid w 0 (part w (4 * c) c) c) w w′
+    → (want ≡ true → part w (4 * c) (cells ks) ≡ f) → want ≡ true → part w′ 0 (cells ks) ≡ f
+collected ks {c} {w = w} {w′} o s l h q =
+    ap (part w′ 0) (sym o) ∙ laid-part (l .on q) (omega arith) (part-length w (4 * c) c (omega arith)) ∙ ap (part w (4 * c)) o ∙ h q
+
+-- so that of a split
+module _ {m : ℕ} {ks : List ℕ} {c : ℕ} {want : Bool} {w₀ net₀ : List ℕ} {r : ℕ} {total : Extent} {w net : List ℕ} (h : Splits m ks c w₀ r)
+    (d : Divided m ks c want w₀ net₀ r total w net) where
+  pub collect-room : 5 * c ≤ length w
+  collect-room = let s = h .whole .left .work in let e = d .written .len in omega arith
+
+  pub split-done : {w′ : List ℕ} → Wanted want (Laid w 0 (part w (4 * c) c) c) w w′
+      → Written ks (splitTree m (treeOf m) (frontStage ks w₀)) 0 want w₀ net₀ r total w′ net
+  split-done l =
+      record {
+        put = d .written .put;
+        function = collected ks (h .whole .left .own .own) collect-room l (d .written .function);
+        len = wanted-length l (λ s. s .len) ∙ d .written .len;
+      }

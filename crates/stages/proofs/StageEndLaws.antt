@@ -1,21 +1,24 @@
 -- A stage from its plan to its function.
-use Prim.Native.Nat.{ℕ, _≤_, _<_}
+use Prim.Native.Nat.{ℕ, _*_, _≤_, _<_}
 use mathlib.Core.Path.{_≡_, refl, sym, _∙_, ap, ap₂, subst}
-use mathlib.Core.Bool.{Bool, true}
+use mathlib.Core.Bool.{Bool, true, false, _||_}
 use mathlib.Core.List.{List}
 use native.Mathlib.Omega.{arith}
+use lib.Dec.{T, ltb, ltb→lt}
 use lib.ListN.{length}
 use Rattle.rules.specs.declared.Gate.{Gate}
 use Rattle.rules.specs.Bytes.{at, tabulate}
 use Rattle.rules.specs.Cell.{cells, card, present, width, lowest, moved}
 use Rattle.rules.specs.Tree.{Tree}
+use Rattle.rules.specs.Demands.{Admits}
 use Rattle.rules.specs.Stage as rules
-use Rattle.rules.specs.Stage.{Stage, left, split, joining, chosen, computed, joinTree, choiceTree, leftTree, treeOf}
+use Rattle.rules.specs.Stage.{Stage, left, split, joining, chosen, tried, computed, joinTree, fewest, choiceTree, leftTree, mayLeft, treeOf}
 use Rattle.laws.proofs.TestLaws.{by-test}
 use Rattle.laws.proofs.TableLaws.{tabulate-self}
 use Rattle.laws.proofs.CellLaws.{Sub, not-above, card-pos, cells-pos}
 use Rattle.laws.proofs.TreeLaws.{size-pos}
-use Rattle.laws.proofs.StageLaws.{Ready, Shrunk, left-shrunk, left-ready}
+use Rattle.laws.proofs.StageLaws.{Ready, Shrunk, left-shrunk, left-ready, admitted}
+use Rattle.laws.proofs.KeepLaws.{left-half, may-cells}
 use Rattle.laws.proofs.FuelLaws.{network-left, built}
 use Rattle.laws.proofs.FunctionLaws.{spread, leaf}
 use Rattle.tables.specs.Part.{part, Shaped}
@@ -35,25 +38,25 @@ use Rattle.stage_steps.specs.Ends.{LeafRoom, LeafPut, SpreadRoom, SpreadLaid}
 use Rattle.stage_steps.specs.Wanting.{Wanted}
 use Rattle.stage_steps.proofs.EndLaws.{leaf-tree}
 use Rattle.stage_steps.proofs.WantLaws.{wanted-length}
-use Rattle.stages.specs.Staging.{Numbered, Starts, Written, Left, Joins, Splits, Joined}
-use Rattle.stages.proofs.ChildLaws.{proper-ready, ready-proper}
+use Rattle.stages.specs.Staging.{Numbered, Starts, Written, Left, Smaller, Joins, Joined, Divides}
+use Rattle.stages.proofs.ChildLaws.{proper-ready, ready-proper, smaller, smaller-behind, stageRank, divideRank, joinRank, stage-some}
 
 few-sub : (b a : List ℕ) → Sub b a → ((i : ℕ) → card a i ≤ 8) → (i : ℕ) → card b i ≤ 8
 few-sub b a s h i =
     by-test (present b i) (λ p. let e = s i p in let l = h i in omega arith) (λ n. let l = not-above (card b i) n in omega arith)
 
 -- the same tree, and the same buffers
-written-tree : {ks : List ℕ} {a b : Tree} {want : Bool} {w net : List ℕ} {r : ℕ} {e : Extent} {w′ net′ : List ℕ} → a ≡ b → Written ks a want w net r e w′ net′
-    → Written ks b want w net r e w′ net′
-written-tree {ks} {a} {b} {want} {w} {net} {r} {e} {w′} {net′} q h = subst (λ (t : Tree). Written ks t want w net r e w′ net′) q h
+pub written-tree : {ks : List ℕ} {a b : Tree} {to : ℕ} {want : Bool} {w net : List ℕ} {r : ℕ} {e : Extent} {w′ net′ : List ℕ} → a ≡ b → Written ks a to want w net r e w′ net′
+    → Written ks b to want w net r e w′ net′
+written-tree {ks} {a} {b} {to} {want} {w} {net} {r} {e} {w′} {net′} q h = subst (λ (t : Tree). Written ks t to want w net r e w′ net′) q h
 
 pub written-here : {ks : List ℕ} {t : Tree} {want : Bool} {w net : List ℕ} {r : ℕ} {e e₁ : Extent} {w′ w₁ net′ net₁ : List ℕ} → w₁ ≡ w′ → net₁ ≡ net′ → e₁ ≡ e
-    → Written ks t want w net r e w′ net′ → Written ks t want w net r e₁ w₁ net₁
+    → Written ks t 0 want w net r e w′ net′ → Written ks t 0 want w net r e₁ w₁ net₁
 written-here {ks} {t} {want} {w} {net} {r} {e} {e₁} {w′} {w₁} {net′} {net₁} p q o h =
-    subst (λ (i : Extent). Written ks t want w net r i w₁ net₁) (sym o)
-    (subst (λ (v : List ℕ). Written ks t want w net r e w₁ v) (sym q) (subst (λ (v : List ℕ). Written ks t want w net r e v net′) (sym p) h))
+    subst (λ (i : Extent). Written ks t 0 want w net r i w₁ net₁) (sym o)
+    (subst (λ (v : List ℕ). Written ks t 0 want w net r e w₁ v) (sym q) (subst (λ (v : List ℕ). Written ks t 0 want w net r e v net′) (sym p) h))
 
-module _ {m : ℕ} {ks : List ℕ} {c : ℕ} {known : Bool} {w : List ℕ} {r : ℕ} (s : Starts m ks c known w r) where
+module _ {m : ℕ} {ks : List ℕ} {c : ℕ} {known may : Bool} {w : List ℕ} {r : ℕ} (s : Starts m ks c known may w r) where
   abbrev x : Stage
   x = frontStage ks w
 
@@ -105,14 +108,30 @@ module _ {m : ℕ} {ks : List ℕ} {c : ℕ} {known : Bool} {w : List ℕ} {r : 
           room = omega arith;
         }
 
+    -- whether it may still take a weak join, told by its cells
+    pub still : (may || ltb (o .cells) c) ≡ mayLeft may x
+    still = ap₂ (λ (a b : ℕ). may || ltb a b) (p .own ∙ ap cells places) (s .own) ∙ sym (may-cells may x (ready .pos))
+
+    pub divide-falls : {q : Bool} → q ≡ mayLeft may x → divideRank q l < stageRank may ks
+    divide-falls {q} e = go may q e
+      where
+        go : (b q : Bool) → q ≡ mayLeft b x → divideRank q l < stageRank b ks
+        go true true e = let f = fewer in omega arith
+        go true false e = let f = fewer in omega arith
+        go false true e = let f = ltb→lt (width (y .ks)) (width ks) (subst T e tt) in let g = ap width places in omega arith
+        go false false e = let f = fewer in omega arith
+
+    pub join-falls : joinRank true l < stageRank may ks
+    join-falls = let f = stage-some may l ks fewer in omega arith
+
     -- the function of the conditions left, over all of the stage's own
-    pub whole : {want : Bool} {w₂ w₃ net net′ : List ℕ} {e : Extent} → Written l (treeOf m x) want w₁ net r e w₂ net′ → Wanted want (SpreadLaid ks l w₂) w₂ w₃
-        → Written ks (treeOf m x) want w net r e w₃ net′
+    pub whole : {want : Bool} {w₂ w₃ net net′ : List ℕ} {e : Extent} → Written l (treeOf m may x) 0 want w₁ net r e w₂ net′ → Wanted want (SpreadLaid ks l w₂) w₂ w₃
+        → Written ks (treeOf m may x) 0 want w net r e w₃ net′
     whole h g =
         record {
           put = h .put;
           function = λ q.
-              g .on q .here ∙ ap (moved l ks) (h .function q) ∙ ap (λ (k : List ℕ). moved k ks (computed k (treeOf m x))) places ∙ sym (spread m x ready);
+              g .on q .here ∙ ap (moved l ks) (h .function q) ∙ ap (λ (k : List ℕ). moved k ks (computed k (treeOf m may x))) places ∙ sym (spread m may x ready);
           len = wanted-length g (λ f. f .len) ∙ h .len ∙ p .does .len;
         }
 
@@ -130,7 +149,7 @@ module _ {m : ℕ} {ks : List ℕ} {c : ℕ} {known : Bool} {w : List ℕ} {r : 
       pub leaf-room : LeafRoom w₁ (o .low) r
       leaf-room =
           let q = s .work in
-          let z = size-pos (treeOf m x) in
+          let z = size-pos (treeOf m may x) in
           let t = s .numbers in
           let v = p .lowest .values in
           let g = few (lowest l) in
@@ -142,7 +161,7 @@ module _ {m : ℕ} {ks : List ℕ} {c : ℕ} {known : Bool} {w : List ℕ} {r : 
             number = omega arith;
           }
 
-      leaf-function : part w₁ 0 (cells l) ≡ computed l (treeOf m x)
+      leaf-function : part w₁ 0 (cells l) ≡ computed l (treeOf m may x)
       leaf-function =
           let q = s .work in
           let f = less in
@@ -152,22 +171,22 @@ module _ {m : ℕ} {ks : List ℕ} {c : ℕ} {known : Bool} {w : List ℕ} {r : 
           ap length (sym (ap (λ (z : Stage). z .limits .lower) is-left)) ∙ part-length w₁ 0 (cells l) (omega arith) ∙ ap cells places in
           ap (λ (z : Stage). z .limits .lower) is-left
           ∙ sym (tabulate-self (at (y .limits .lower)) (y .limits .lower) (λ v h. refl)) ∙ ap (λ (k : ℕ). tabulate k (at (y .limits .lower))) n
-          ∙ sym (leaf m x ready one) ∙ ap (λ (k : List ℕ). computed k (treeOf m x)) (sym places)
+          ∙ sym (leaf m may x ready one) ∙ ap (λ (k : List ℕ). computed k (treeOf m may x)) (sym places)
 
-      pub leaf-done : length l ≡ 8 → {want : Bool} {net net′ : List ℕ} {i : Extent} → LeafPut (o .low) w₁ net r i net′ → Written l (treeOf m x) want w₁ net r i w₁ net′
+      pub leaf-done : length l ≡ 8 → {want : Bool} {net net′ : List ℕ} {i : Extent} → LeafPut (o .low) w₁ net r i net′ → Written l (treeOf m may x) 0 want w₁ net r i w₁ net′
       leaf-done eight {want} {net} {net′} {i} h =
           record {
             put =
-                subst (λ (t : Tree). TreePut t net r i net′) (sym (network-left m x (ready .pos)))
-                (subst (λ (z : Stage). TreePut (leftTree m (treeOf m) (width (z .ks)) z) net r i net′) is-left
-                (leaf-tree l w₁ shaped eight narrow (p .lowest) h m (treeOf m) (part w₁ (cells l) (cells l))));
+                subst (λ (t : Tree). TreePut t net r i net′) (sym (network-left m may x (ready .pos)))
+                (subst (λ (z : Stage). TreePut (leftTree m (treeOf m) (mayLeft may x) (width (z .ks)) z) net r i net′) is-left
+                (leaf-tree l w₁ shaped eight narrow (p .lowest) h m (treeOf m) (mayLeft may x) (part w₁ (cells l) (cells l))));
             function = λ q. leaf-function;
             len = refl;
           }
 
     -- steps 3 to 6
-    tree-is : 2 ≤ width (y .ks) → (q : rules.Choice) → chosen m y ≡ q → treeOf m x ≡ choiceTree m (treeOf m) q y
-    tree-is wide q e = built m x (ready .pos) .more-left wide .1 ∙ ap (λ (k : rules.Choice). choiceTree m (treeOf m) k y) e
+    tree-is : 2 ≤ width (y .ks) → (q : rules.Choice) → chosen m y ≡ q → treeOf m may x ≡ choiceTree m (treeOf m) (mayLeft may x) q y
+    tree-is wide q e = built m may x (ready .pos) .more-left wide .1 ∙ ap (λ (k : rules.Choice). choiceTree m (treeOf m) (mayLeft may x) k y) e
 
     left-here : 2 ≤ width (y .ks) → (z : Stage) → y ≡ z → Left m z (o .cells) w₁
     left-here wide z e =
@@ -192,20 +211,40 @@ module _ {m : ℕ} {ks : List ℕ} {c : ℕ} {known : Bool} {w : List ℕ} {r : 
       same : frontStage l w₁ ≡ y
       same = ap (λ (k : List ℕ). frontStage k w₁) places ∙ splitting .stage
 
-      split-tree : treeOf m x ≡ choiceTree m (treeOf m) split (frontStage l w₁)
-      split-tree = tree-is (splitting .wide) split (splitting .is) ∙ ap (choiceTree m (treeOf m) split) (sym same)
+      divide-tree : treeOf m may x ≡ fewest m (treeOf m) (tried m (mayLeft may x) (frontStage l w₁)) (frontStage l w₁)
+      divide-tree =
+          tree-is (splitting .wide) split (splitting .is) ∙ ap (λ (z : Stage). fewest m (treeOf m) (tried m (mayLeft may x) z) z) (sym same)
 
-      pub splits : Splits m l (o .cells) w₁ r
-      splits =
+      -- one that has lost a condition has half of its cells at most, so there is room for a weak join again
+      weak-room : mayLeft may x ≡ true → 32 * o .cells ≤ length w₁
+      weak-room h = go may (s .more) h
+        where
+          go : (q : Bool) → (q ≡ true → 32 * cells ks ≤ length w) → mayLeft q x ≡ true → 32 * o .cells ≤ length w₁
+          go true g h = let a = g refl in let b = less in let d = p .own in let f = p .does .len in omega arith
+          go false g h =
+              let a = s .work in
+              let b = left-half x (ready .pos) (ltb→lt (width (y .ks)) (width ks) (subst T (sym h) tt)) in
+              let d = p .own in
+              let e = ap cells places in
+              let f = p .does .len in
+              omega arith
+
+      pub divides : {q : Bool} → q ≡ mayLeft may x → Divides m l (o .cells) q w₁ r
+      divides {q} g =
           record {
-            left = left-here (splitting .wide) (frontStage l w₁) (sym same);
-            masks = subst (λ (k : List ℕ). Known m k w₁) (sym places) (splitting .masks);
-            numbers = subst (λ (t : Tree). Numbered t r) split-tree (s .numbers);
+            whole =
+                record {
+                  left = left-here (splitting .wide) (frontStage l w₁) (sym same);
+                  masks = subst (λ (k : List ℕ). Known m k w₁) (sym places) (splitting .masks);
+                };
+            more = λ h. weak-room (sym g ∙ h);
+            numbers =
+                subst (λ (b : Bool). Numbered (fewest m (treeOf m) (tried m b (frontStage l w₁)) (frontStage l w₁)) r) (sym g) (subst (λ (t : Tree). Numbered t r) divide-tree (s .numbers));
           }
 
-      pub split-done : {want : Bool} {w₂ net net′ : List ℕ} {i : Extent} → Written l (choiceTree m (treeOf m) split (frontStage l w₁)) want w₁ net r i w₂ net′
-          → Written l (treeOf m x) want w₁ net r i w₂ net′
-      split-done h = written-tree (sym split-tree) h
+      pub divide-done : {q : Bool} → q ≡ mayLeft may x → {want : Bool} {w₂ net net′ : List ℕ} {i : Extent}
+          → Written l (fewest m (treeOf m) (tried m q (frontStage l w₁)) (frontStage l w₁)) 0 want w₁ net r i w₂ net′ → Written l (treeOf m may x) 0 want w₁ net r i w₂ net′
+      divide-done g h = written-tree (ap (λ (b : Bool). fewest m (treeOf m) (tried m b (frontStage l w₁)) (frontStage l w₁)) g ∙ sym divide-tree) h
 
     module _ {by : Gate} {of : Sets} (e : o .choice ≡ Join by of) where
       joining-here : Joining by m y (of .s) (of .t) w₁
@@ -215,18 +254,34 @@ module _ {m : ℕ} {ks : List ℕ} {c : ℕ} {known : Bool} {w : List ℕ} {r : 
       as-left : stageOf l (y .limits) ≡ y
       as-left = ap (λ (k : List ℕ). stageOf k (y .limits)) places
 
-      join-tree : treeOf m x ≡ joinTree m (treeOf m) by (of .s) (of .t) (stageOf l (y .limits))
+      join-tree : treeOf m may x ≡ joinTree m (treeOf m) true by (of .s) (of .t) (stageOf l (y .limits))
       join-tree =
-          tree-is (joining-here .wide) (joining by (of .s) (of .t)) (joining-here .is) ∙ ap (joinTree m (treeOf m) by (of .s) (of .t)) (sym as-left)
+          tree-is (joining-here .wide) (joining by (of .s) (of .t)) (joining-here .is) ∙ ap (joinTree m (treeOf m) true by (of .s) (of .t)) (sym as-left)
 
-      pub joins : Joins by m (stageOf l (y .limits)) (of .s) (of .t) (o .cells) w₁ r
-      joins =
+      admits : Admits m y by (of .s) (of .t)
+      admits = admitted m y by (of .s) (of .t) (joining-here .is)
+
+      without-first : Smaller (y .ks) (of .t)
+      without-first = smaller (y .ks) (of .t) (shrunk .pos) (admits .sets .some-t) (admits .sets .in-t)
+
+      left-as : Left m y (o .cells) w₁
+      left-as = left-here (joining-here .wide) y refl
+
+      joins-left : Joins by m y (of .s) (of .t) true (o .cells) w₁ r
+      joins-left =
           record {
-            left = left-here (joining-here .wide) (stageOf l (y .limits)) (sym as-left);
-            chosen = ap (chosen m) as-left ∙ joining-here .is;
-            tables = subst (λ (z : Stage). ForBoth by m z (of .s) (of .t) w₁) (sym as-left) (joining-here .tables);
-            numbers = subst (λ (t : Tree). Numbered t r) join-tree (s .numbers);
+            left = left-as;
+            exists = admits .joins;
+            first-room = smaller-behind (of .t) left-as without-first;
+            first-fewer = λ h. without-first .fewer;
+            second = smaller (y .ks) (of .s) (shrunk .pos) (admits .sets .some-s) (admits .sets .in-s);
+            tables = joining-here .tables;
+            numbers = subst (λ (t : Tree). Numbered t r) (tree-is (joining-here .wide) (joining by (of .s) (of .t)) (joining-here .is)) (s .numbers);
           }
 
-      pub join-done : {want : Bool} {w₂ net net′ : List ℕ} {i : Extent} → Joined by m l (of .s) (of .t) (o .cells) want w₁ net r i w₂ net′ → Written l (treeOf m x) want w₁ net r i w₂ net′
+      pub joins : Joins by m (stageOf l (y .limits)) (of .s) (of .t) true (o .cells) w₁ r
+      joins = subst (λ (z : Stage). Joins by m z (of .s) (of .t) true (o .cells) w₁ r) (sym as-left) joins-left
+
+      pub join-done : {want : Bool} {w₂ net net′ : List ℕ} {i : Extent} → Joined by m l (of .s) (of .t) true (o .cells) want w₁ net r i w₂ net′
+          → Written l (treeOf m may x) 0 want w₁ net r i w₂ net′
       join-done h = written-tree (sym join-tree) (h .whole (y .limits) joins)

@@ -1,4 +1,6 @@
-// The stages of compiling a table. A stage joins or splits, and each starts stages with fewer conditions.
+// The stages of compiling a table. A stage joins, or divides: it splits, or takes a weak join in the place of a split.
+// Each of these starts stages with fewer conditions, but for the first block of a weak join, which has as many and may
+// take no weak join itself.
 use grouping::Sets;
 use places::sets;
 use places::sets::Condition;
@@ -8,13 +10,21 @@ use stage_choice::Choice;
 use stage_steps::ends;
 use stage_steps::gates::Extent;
 use stage_steps::values;
-ghost use Rattle.rules.specs.Stage.{split, choiceTree, treeOf};
+use weak_joins::Candidates;
+use weak_joins::Weak;
+ghost use Prim.Native.Nat.{_<_};
+ghost use mathlib.Core.Path.{_≡_};
+ghost use mathlib.Core.Bool.{_||_};
+ghost use lib.Dec.{ltb};
+ghost use Rattle.rules.specs.Cell.{singleton};
+ghost use Rattle.rules.specs.Stage.{weakly, tried, fewest, treeOf};
 ghost use Rattle.places.specs.Conditions.{IsLowest};
 ghost use Rattle.stage_drops.specs.Working.{frontStage};
-ghost use Rattle.stages.specs.Staging.{Starts, Written, Splits, CanJoin, Joined};
+ghost use Rattle.stages.specs.Staging.{Starts, Written, Numbered, Splits, Divided, CanJoin, Joined, Tries, Counted, Divides};
 
 // Step 6: a stage for each value of the lowest condition, with a literal before it and gates behind it. Each is lent
-// the limits of its cells and, since a split leaves them true, their masks. Their functions are collected in part 4.
+// the limits of its cells and, since a split leaves them true, their masks. Their functions are collected in part 4,
+// and what stands before it stays.
 fn split(
     w: &mut [u8],
     network: &mut [u8],
@@ -26,7 +36,7 @@ fn split(
     want: bool,
 ) -> Extent
     requires { ⌜ Splits m ks c (now w) r × IsLowest ks low ⌝ }
-    ensures { λ of. ⌜ Written ks (choiceTree m (treeOf m) split (frontStage ks (now (w .entry)))) want (now (w .entry)) (now (network .entry)) r of (now (w .exit)) (now (network .exit)) ⌝ }
+    ensures { λ of. ⌜ Divided m ks c want (now (w .entry)) (now (network .entry)) r of (now (w .exit)) (now (network .exit)) ⌝ }
 {
     let i = low.number;
     let values = low.values;
@@ -36,16 +46,25 @@ fn split(
     let mut total = Extent { next: r, depth: 0 };
     for k in 0..values {
         let literal = values::begin_value(w, network, i as u8, values, n, c, k, m - 1, total.next);
-        let of = stage(&mut w[rest..], network, b, n, m, literal.next, true, want);
+        let of = stage(
+            &mut w[rest..],
+            network,
+            b,
+            n,
+            m,
+            literal.next,
+            true,
+            true,
+            want,
+        );
         values::keep_value(w, want, n, values, c, k);
         total = values::end_value(network, k, total, literal, of);
     }
-    values::collect(w, want, c);
     total
 }
 
 // Step 5: a stage for each block, then the gate. The second block is made from the function of the
-// first, which is wanted whether the join's own is or not.
+// first, which is wanted whether the join's own is or not. The first block of a weak join may take none.
 fn join(
     w: &mut [u8],
     network: &mut [u8],
@@ -54,11 +73,12 @@ fn join(
     c: usize,
     gate: Gate,
     of: Sets,
+    may: bool,
     r: usize,
     want: bool,
 ) -> Extent
-    requires { ⌜ CanJoin gate m ks (of .s) (of .t) c (now w) r ⌝ }
-    ensures { λ n. ⌜ Joined gate m ks (of .s) (of .t) c want (now (w .entry)) (now (network .entry)) r n (now (w .exit)) (now (network .exit)) ⌝ }
+    requires { ⌜ CanJoin gate m ks (of .s) (of .t) may c (now w) r ⌝ }
+    ensures { λ n. ⌜ Joined gate m ks (of .s) (of .t) may c want (now (w .entry)) (now (network .entry)) r n (now (w .exit)) (now (network .exit)) ⌝ }
 {
     let rest = 8 * c;
     let first_block = stage_blocks::first_table(w, gate, m, ks, of.t, c);
@@ -71,6 +91,7 @@ fn join(
         m,
         r,
         false,
+        may,
         true,
     );
     let second_block = stage_blocks::second_table(w, gate, m, ks, a, of.s, c);
@@ -83,9 +104,108 @@ fn join(
         m,
         first.next,
         false,
+        true,
         want,
     );
     ends::close_join(w, network, gate, ks, b, c, first, second, want)
+}
+
+// The sets of a weak join at condition i: the second is empty.
+fn alone(i: usize) -> Sets
+    requires { ⌜ i < 8 ⌝ }
+    ensures { λ r. ⌜ (r .s ≡ singleton i) × (r .t ≡ 0) ⌝ }
+{
+    Sets {
+        s: sets::singleton(i),
+        t: 0,
+    }
+}
+
+// The split and the weak join by a gate at condition i, counted: both are lent a network buffer without a byte. Where
+// functions are wanted, the weak join's is at the front and the split's in part 4; where not, the limits are still
+// there, as the weak join wants them.
+fn count_both(
+    w: &mut [u8],
+    ks: [u8; PLACES],
+    low: Condition,
+    m: u8,
+    c: usize,
+    gate: Gate,
+    i: usize,
+    want: bool,
+) -> Candidates
+    requires { ⌜ Tries m ks i c (now w) × IsLowest ks low ⌝ }
+    ensures { λ of. ⌜ Counted gate m ks i c want (now (w .entry)) of (now (w .exit)) ⌝ }
+{
+    let mut none = [0u8; 0];
+    let split = split(w, &mut none, ks, low, m, c, 0, want);
+    weak_joins::open(w, gate, m, ks, i, c);
+    let weak = join(w, &mut none, ks, m, c, gate, alone(i), false, 0, want);
+    Candidates { split, weak }
+}
+
+// The weak join by a gate at condition i, if it has fewer records than the split, else the split. Nothing is written
+// before both are counted. Where nothing will be, the function of the one that is kept need not be made again.
+fn shorter(
+    w: &mut [u8],
+    network: &mut [u8],
+    ks: [u8; PLACES],
+    low: Condition,
+    m: u8,
+    c: usize,
+    gate: Gate,
+    i: usize,
+    r: usize,
+    want: bool,
+) -> Extent
+    requires { ⌜ Tries m ks i c (now w) × IsLowest ks low × Numbered (fewest m (treeOf m) (weakly gate i) (frontStage ks (now w))) r ⌝ }
+    ensures { λ of. ⌜ Written ks (fewest m (treeOf m) (weakly gate i) (frontStage ks (now (w .entry)))) 0 want (now (w .entry)) (now (network .entry)) r of (now (w .exit)) (now (network .exit)) ⌝ }
+{
+    if network.len() == 0 {
+        let counted = count_both(w, ks, low, m, c, gate, i, want);
+        return weak_joins::keep(w, counted, c, r, want);
+    }
+    let counted = count_both(w, ks, low, m, c, gate, i, false);
+    if counted.weak.next < counted.split.next {
+        weak_joins::reopen(w, ks, i, c);
+        return join(w, network, ks, m, c, gate, alone(i), false, r, want);
+    }
+    weak_joins::restore(w, gate, m, ks, c);
+    let of = split(w, network, ks, low, m, c, r, want);
+    values::collect(w, want, c);
+    of
+}
+
+// Where no two sets join: a split, or the weak join that takes its place.
+fn divide(
+    w: &mut [u8],
+    network: &mut [u8],
+    ks: [u8; PLACES],
+    low: Condition,
+    m: u8,
+    c: usize,
+    r: usize,
+    may: bool,
+    want: bool,
+) -> Extent
+    requires { ⌜ Divides m ks c may (now w) r × IsLowest ks low ⌝ }
+    ensures { λ of. ⌜ Written ks (fewest m (treeOf m) (tried m may (frontStage ks (now (w .entry)))) (frontStage ks (now (w .entry)))) 0 want (now (w .entry)) (now (network .entry)) r of (now (w .exit)) (now (network .exit)) ⌝ }
+{
+    match weak_joins::first_weak(w, ks, m, c, may) {
+        Weak::At(gate, i) => shorter(w, network, ks, low, m, c, gate, i, r, want),
+        Weak::Nowhere => {
+            let of = split(w, network, ks, low, m, c, r, want);
+            values::collect(w, want, c);
+            of
+        }
+    }
+}
+
+// Whether a stage of c cells, of which n are left, may take a weak join: if it might before, or has lost a condition.
+fn may_still(may: bool, n: usize, c: usize) -> bool
+    ensures { λ r. ⌜ r ≡ (may || ltb n c) ⌝ }
+{
+    if may { true } else { n < c }
 }
 
 // The network of the stage over ks, of c cells, whose limits are at the front of the work buffer and, where they are
@@ -99,10 +219,11 @@ pub fn stage(
     m: u8,
     r: usize,
     known: bool,
+    may: bool,
     want: bool,
 ) -> Extent
-    requires { ⌜ Starts m ks c known (now w) r ⌝ }
-    ensures { λ of. ⌜ Written ks (treeOf m (frontStage ks (now (w .entry)))) want (now (w .entry)) (now (network .entry)) r of (now (w .exit)) (now (network .exit)) ⌝ }
+    requires { ⌜ Starts m ks c known may (now w) r ⌝ }
+    ensures { λ of. ⌜ Written ks (treeOf m may (frontStage ks (now (w .entry)))) 0 want (now (w .entry)) (now (network .entry)) r of (now (w .exit)) (now (network .exit)) ⌝ }
 {
     let plan = stage_plan::plan_stage(w, ks, m, c, known);
     let left = plan.places;
@@ -111,8 +232,8 @@ pub fn stage(
     let choice = plan.choice;
     let of = match choice {
         Choice::Leaf => ends::leaf(w, network, low, r),
-        Choice::Split => split(w, network, left, low, m, n, r, want),
-        Choice::Join(gate, sets) => join(w, network, left, m, n, gate, sets, r, want),
+        Choice::Split => divide(w, network, left, low, m, n, r, may_still(may, n, c), want),
+        Choice::Join(gate, sets) => join(w, network, left, m, n, gate, sets, true, r, want),
     };
     ends::spread_if(w, want, left, ks, n, c);
     of
