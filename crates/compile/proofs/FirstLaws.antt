@@ -35,15 +35,15 @@ use Rattle.compile.proofs.RowLaws.{table}
 pub record Roomy (c : ℕ) (lower upper work : ℕ) : Type 0 where
   pub low : c ≤ lower
   pub high : c ≤ upper
-  pub work-room : 16 * c ≤ work
+  pub work-room : 32 * c ≤ work
 
 pub roomy-means : (c lower upper work : ℕ) → T (tableRoom c lower upper work) → Roomy c lower upper work
 roomy-means c lower upper work h =
-    let a = and-l (roomy c (lower ∷ upper ∷ [])) (leb (16 * c) work) h in
+    let a = and-l (roomy c (lower ∷ upper ∷ [])) (leb (32 * c) work) h in
     record {
       low = leb→le c lower (and-l (leb c lower) (leb c upper && true) a);
       high = leb→le c upper (and-l (leb c upper) true (and-r (leb c lower) (leb c upper && true) a));
-      work-room = leb→le (16 * c) work (and-r (roomy c (lower ∷ upper ∷ [])) (leb (16 * c) work) h);
+      work-room = leb→le (32 * c) work (and-r (roomy c (lower ∷ upper ∷ [])) (leb (32 * c) work) h);
     }
 
 -- a table at a, within the first e bytes of a buffer
@@ -60,14 +60,14 @@ load-at x n k h = part-at x 0 n k h ∙ ap (at x) (zero-add k) ∙ sym (getD-tak
 
 -- both limits loaded, the lower ones first
 module _ (ks lower upper work : List ℕ) {v w : List ℕ} (low : Laid work 0 (part lower 0 (cells ks)) (cells ks) v) (high : Laid v (cells ks) (part upper 0 (cells ks)) (cells ks) w)
-    (hl : cells ks ≤ length lower) (hu : cells ks ≤ length upper) (hw : 16 * cells ks ≤ length work) where
-  pub first-stage : stageAt ks (take (16 * cells ks) w) 0 (cells ks) ≡ wholeTable ks (lentLimits ks lower upper)
+    (hl : cells ks ≤ length lower) (hu : cells ks ≤ length upper) (hw : 32 * cells ks ≤ length work) where
+  pub first-stage : stageAt ks (take (32 * cells ks) w) 0 (cells ks) ≡ wholeTable ks (lentLimits ks lower upper)
   first-stage =
       let e : length w ≡ length work = high .len ∙ low .len in
       ap₂ (λ (a b : List ℕ). wholeTable ks (limitsOf a b))
-      (front-part w (take (cells ks) lower) (16 * cells ks) 0 (cells ks) (omega arith) (omega arith) (length-take-le (cells ks) lower hl)
+      (front-part w (take (cells ks) lower) (32 * cells ks) 0 (cells ks) (omega arith) (omega arith) (length-take-le (cells ks) lower hl)
       (λ k h. high .before (0 + k) (omega arith) ∙ low .here k h ∙ load-at lower (cells ks) k h))
-      (front-part w (take (cells ks) upper) (16 * cells ks) (cells ks) (cells ks) (omega arith) (omega arith) (length-take-le (cells ks) upper hu)
+      (front-part w (take (cells ks) upper) (32 * cells ks) (cells ks) (cells ks) (omega arith) (omega arith) (length-take-le (cells ks) upper hu)
       (λ k h. high .here k h ∙ load-at upper (cells ks) k h))
 
 -- the bytes behind both stay
@@ -93,33 +93,34 @@ module _ (shape : Shape) (lower upper work : List ℕ) (ok : Accepted shape lowe
   lent = table shape lower upper ok
 
   module _ {v w : List ℕ} (low : Laid work 0 (part lower 0 (cells ks)) (cells ks) v) (high : Laid v (cells ks) (part upper 0 (cells ks)) (cells ks) w) where
-    same : stageAt ks (take (16 * cells ks) w) 0 (cells ks) ≡ wholeTable ks l
+    same : stageAt ks (take (32 * cells ks) w) 0 (cells ks) ≡ wholeTable ks l
     same = first-stage ks lower upper work low high (rooms .low) (rooms .high) (rooms .work-room)
 
-    lent-length : length (take (16 * cells ks) w) ≡ 16 * cells ks
-    lent-length = length-take-le (16 * cells ks) w (let r = rooms .work-room in let e : length w ≡ length work = high .len ∙ low .len in omega arith)
+    lent-length : length (take (32 * cells ks) w) ≡ 32 * cells ks
+    lent-length = length-take-le (32 * cells ks) w (let r = rooms .work-room in let e : length w ≡ length work = high .len ∙ low .len in omega arith)
 
-    starts : Starts (shape .m) ks (cells ks) false (take (16 * cells ks) w) 0
+    starts : Starts (shape .m) ks (cells ks) false true (take (32 * cells ks) w) 0
     starts =
         record {
           shaped = record { some = lent .positive; few = lent .few-cells };
           own = refl;
           few = lent .few-values;
           work = let e = lent-length in omega arith;
+          more = λ h. let e = lent-length in omega arith;
           proper = subst (Proper (shape .m)) (sym same) (record { some = let g = lent .grades in omega arith; ordered = lent .ordered; top = lent .top });
           masks = λ e. absurd (subst T (sym e) tt);
           numbers =
-              subst (λ (x : Stage). Numbered (treeOf (shape .m) x) 0) (sym same)
+              subst (λ (x : Stage). Numbered (treeOf (shape .m) true x) 0) (sym same)
               (let h = compiled-size ks (shape .m) l (lent .positive) in let g = lent .few-cells in omega arith);
         }
 
-    module _ {network : List ℕ} {e : Extent} {w′ net′ : List ℕ} (done : Written ks (treeOf (shape .m) (stageAt ks (take (16 * cells ks) w) 0 (cells ks))) false (take (16 * cells ks) w) network 0 e w′ net′) where
-      here : Written ks tree false (take (16 * cells ks) w) network 0 e w′ net′
-      here = subst (λ (x : Stage). Written ks (treeOf (shape .m) x) false (take (16 * cells ks) w) network 0 e w′ net′) same done
+    module _ {network : List ℕ} {e : Extent} {w′ net′ : List ℕ} (done : Written ks (treeOf (shape .m) true (stageAt ks (take (32 * cells ks) w) 0 (cells ks))) 0 false (take (32 * cells ks) w) network 0 e w′ net′) where
+      here : Written ks tree 0 false (take (32 * cells ks) w) network 0 e w′ net′
+      here = subst (λ (x : Stage). Written ks (treeOf (shape .m) true x) 0 false (take (32 * cells ks) w) network 0 e w′ net′) same done
 
-      recorded : Recorded shape lower upper work network e (w′ ++ drop (16 * cells ks) w) net′
+      recorded : Recorded shape lower upper work network e (w′ ++ drop (32 * cells ks) w) net′
       recorded =
-          let len : length w′ ≡ 16 * cells ks = here .len ∙ lent-length in
+          let len : length w′ ≡ 32 * cells ks = here .len ∙ lent-length in
           let long : length w ≡ length work = high .len ∙ low .len in
           let count : length (records tree 0) ≡ size tree = length-records tree 0 in
           record {
@@ -128,11 +129,11 @@ module _ (shape : Shape) (lower upper work : List ℕ) (ok : Accepted shape lowe
             bytes = λ fit. laid-front (here .put .put .bytes (let z = zero-add (length (records tree 0)) in omega arith)) fit (length-networkBytes (records tree 0));
             kept =
                 record {
-                  long = length-append w′ (drop (16 * cells ks) w) ∙ (let r = rooms .work-room in omega (arith, length-drop (16 * cells ks) w));
+                  long = length-append w′ (drop (32 * cells ks) w) ∙ (let r = rooms .work-room in omega (arith, length-drop (32 * cells ks) w));
                   rest =
-                      ap (λ (k : ℕ). drop k (w′ ++ drop (16 * cells ks) w)) (sym len)
-                      ∙ drop-append-seam w′ (drop (16 * cells ks) w)
-                      ∙ drop-same (16 * cells ks) work w long (λ j h. high .after j (omega arith) ∙ low .after j (omega arith));
+                      ap (λ (k : ℕ). drop k (w′ ++ drop (32 * cells ks) w)) (sym len)
+                      ∙ drop-append-seam w′ (drop (32 * cells ks) w)
+                      ∙ drop-same (32 * cells ks) work w long (λ j h. high .after j (omega arith) ∙ low .after j (omega arith));
                 };
           }
 
@@ -141,7 +142,7 @@ module _ (shape : Shape) (lower upper work : List ℕ) (ok : Accepted shape lowe
   pub few : n ≤ 1024
   few = let h = lent shape lower upper work ok .few-cells in omega arith
 
-  pub rooms-by : (n ≤ length lower) × (n ≤ length upper) × (16 * n ≤ length work)
+  pub rooms-by : (n ≤ length lower) × (n ≤ length upper) × (32 * n ≤ length work)
   rooms-by = let r = rooms shape lower upper work ok in (let h = r .low in omega arith, let h = r .high in omega arith, let h = r .work-room in omega arith)
 
   module _ {v w : List ℕ} (low : Laid work 0 (part lower 0 n) n v) (high : Laid v n (part upper 0 n) n w) (k : List ℕ) (places : k ≡ placesOf shape) where
@@ -151,15 +152,15 @@ module _ (shape : Shape) (lower upper work : List ℕ) (ok : Accepted shape lowe
     high-by : Laid v (cells (placesOf shape)) (part upper 0 (cells (placesOf shape))) (cells (placesOf shape)) w
     high-by = subst (λ (i : ℕ). Laid v i (part upper 0 i) i w) count high
 
-    pub starts-by : Starts (shape .m) k n false (take (16 * n) w) 0
+    pub starts-by : Starts (shape .m) k n false true (take (32 * n) w) 0
     starts-by =
-        subst (λ (i : ℕ). Starts (shape .m) k i false (take (16 * i) w) 0) (sym count)
-        (subst (λ (q : List ℕ). Starts (shape .m) q (cells (placesOf shape)) false (take (16 * cells (placesOf shape)) w) 0) (sym places) (starts shape lower upper work ok low-by high-by))
+        subst (λ (i : ℕ). Starts (shape .m) k i false true (take (32 * i) w) 0) (sym count)
+        (subst (λ (q : List ℕ). Starts (shape .m) q (cells (placesOf shape)) false true (take (32 * cells (placesOf shape)) w) 0) (sym places) (starts shape lower upper work ok low-by high-by))
 
-    pub recorded-by : {network : List ℕ} {e : Extent} {w′ net′ : List ℕ} → Written k (treeOf (shape .m) (stageAt k (take (16 * n) w) 0 (cells k))) false (take (16 * n) w) network 0 e w′ net′
-        → Recorded shape lower upper work network e (w′ ++ drop (16 * n) w) net′
+    pub recorded-by : {network : List ℕ} {e : Extent} {w′ net′ : List ℕ} → Written k (treeOf (shape .m) true (stageAt k (take (32 * n) w) 0 (cells k))) 0 false (take (32 * n) w) network 0 e w′ net′
+        → Recorded shape lower upper work network e (w′ ++ drop (32 * n) w) net′
     recorded-by {network} {e} {w′} {net′} y =
-        subst (λ (i : ℕ). Recorded shape lower upper work network e (w′ ++ drop (16 * i) w) net′) (sym count)
+        subst (λ (i : ℕ). Recorded shape lower upper work network e (w′ ++ drop (32 * i) w) net′) (sym count)
         (recorded shape lower upper work ok low-by high-by
-        (subst (λ (i : ℕ). Written (placesOf shape) (treeOf (shape .m) (stageAt (placesOf shape) (take (16 * i) w) 0 (cells (placesOf shape)))) false (take (16 * i) w) network 0 e w′ net′) count
-        (subst (λ (q : List ℕ). Written q (treeOf (shape .m) (stageAt q (take (16 * n) w) 0 (cells q))) false (take (16 * n) w) network 0 e w′ net′) places y)))
+        (subst (λ (i : ℕ). Written (placesOf shape) (treeOf (shape .m) true (stageAt (placesOf shape) (take (32 * i) w) 0 (cells (placesOf shape)))) 0 false (take (32 * i) w) network 0 e w′ net′) count
+        (subst (λ (q : List ℕ). Written q (treeOf (shape .m) true (stageAt q (take (32 * n) w) 0 (cells q))) 0 false (take (32 * n) w) network 0 e w′ net′) places y)))

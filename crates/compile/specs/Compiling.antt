@@ -11,7 +11,7 @@ use Rattle.rules.specs.Limits.{limitsOf, limitsSound}
 use Rattle.rules.specs.Verdict.{Verdict, accepted, refused, Answer, granted, denied, answerOf}
 use Rattle.rules.specs.Network.{Record, networkBytes, networkSound, evaluate}
 use Rattle.rules.specs.Demands.{Inside, EveryStage, compiledRecords, Compiled}
-use Rattle.rules.specs.CompileCall.{tableRoom, lentLimits, compileCall}
+use Rattle.rules.specs.CompileCall.{compileWork, tableRoom, lentLimits, compileCall}
 use Rattle.rules.specs.Forecast.{networkDepth}
 use Rattle.rules.specs.Bytes.{Past}
 use Rattle.shape.specs.declared.Shape.{Shape}
@@ -67,13 +67,13 @@ pub record KeepsTable (shape : Shape) (lower upper : List ℕ) (n : ℕ) (networ
   pub stages : EveryStage (placesOf shape) (shape .m) (lentLimits (placesOf shape) lower upper)
 
 -- the answer and every byte of the network buffer by the rows of document 01, for every shape and all buffers; a refusal leaves the
--- work buffer too, and nothing changes its length or its bytes past sixteen for each cell; records are what demand 3 asks for
+-- work buffer too, and nothing changes its length or its bytes past those that it asks for; records are what demand 3 asks for
 pub record Compiles (shape : Shape) (lower upper work network : List ℕ) (answer : CompileAnswer) (work′ network′ : List ℕ) : Type 0 where
   pub answers : answer ≡ compileAnswer (compileRows shape lower upper work network)
   pub means : compileMeans answer ≡ answerOf (λ rs. length rs ∷ []) (compileRows shape lower upper work network)
   pub network-after : network′ ≡ networkAfter (compileRows shape lower upper work network) network
   pub refusal-keeps : (r : Refusal) → answer ≡ Refused r → work′ ≡ work
-  pub kept : Past (16 * cells (placesOf shape)) work work′
+  pub kept : Past (compileWork (cells (placesOf shape))) work work′
   pub keeps-table : (n : ℕ) → answer ≡ Records n → KeepsTable shape lower upper n network′
 
 -- a table that no row stops, with a work buffer of this length
@@ -91,4 +91,4 @@ module _ (shape : Shape) (lower upper work network : List ℕ) where
     pub count : of .next ≡ length rs
     pub depth : of .depth ≡ networkDepth rs
     pub bytes : 16 * length rs ≤ length network → network′ ≡ networkAfter (accepted rs) network
-    pub kept : Past (16 * cells (placesOf shape)) work work′
+    pub kept : Past (compileWork (cells (placesOf shape))) work work′

@@ -8,7 +8,7 @@ use Rattle.rules.specs.Bytes.{Past}
 use Rattle.rules.specs.Cell.{cells}
 use Rattle.rules.specs.Verdict.{Verdict, accepted, refused, Answer, granted, denied, answerOf}
 use Rattle.rules.specs.Network.{networkRecords}
-use Rattle.rules.specs.CompileCall.{lentLimits}
+use Rattle.rules.specs.CompileCall.{compileWork, lentLimits}
 use Rattle.rules.specs.Forecast.{Forecast, networkDepth, forecastCall, Foretold}
 use Rattle.shape.specs.declared.Shape.{Shape}
 use Rattle.shape.specs.Shapes.{cardsOf, placesOf}
@@ -39,11 +39,11 @@ module _ (shape : Shape) (lower upper : List ℕ) where
 
   -- the answer by the rows, for every shape and all buffers: beside a compile of the same table whose network buffer is long enough, a refusal
   -- is that compile's, and figures are those of its network; a refusal leaves the work buffer, and nothing changes its length or its bytes past
-  -- sixteen for each cell
+  -- those that it asks for
   pub record Forecasts (work : List ℕ) (answer : ForecastAnswer) (work′ : List ℕ) : Type 0 where
     pub answers : answer ≡ forecastAnswer (forecastRows work)
     pub means : forecastMeans answer ≡ answerOf (λ f. f .count ∷ f .depth ∷ []) (forecastRows work)
     pub stops : Foretold (shape .n) (cardsOf shape) (shape .m) (length lower) (length upper) (length work) (lentLimits (placesOf shape) lower upper)
     pub foretells : (records depth : ℕ) → answer ≡ Figures records depth → Foretells records depth
     pub refusal-keeps : (r : Refusal) → answer ≡ Refused r → work′ ≡ work
-    pub kept : Past (16 * cells (placesOf shape)) work work′
+    pub kept : Past (compileWork (cells (placesOf shape))) work work′

@@ -31,9 +31,9 @@ enum Judged {
 }
 
 // The bytes of the work buffer for each cell.
-const WORK: usize = 16;
+const WORK: usize = 32;
 
-// Writes the network of a table. The work buffer has 16 bytes for each cell, the network buffer 16
+// Writes the network of a table. The work buffer has 32 bytes for each cell, the network buffer 16
 // for each of the most records that there can be.
 pub fn compile(
     shape: Shape,
@@ -137,6 +137,7 @@ fn build(shape: Shape, lower: &[u8], upper: &[u8], work: &mut [u8], network: &mu
         shape.m,
         0,
         false,
+        true,
         false,
     )
 }

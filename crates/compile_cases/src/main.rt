@@ -14,6 +14,8 @@ use shape::Shape;
 // The bytes of a record, and of the work for a cell.
 const RECORD: usize = 16;
 
+const WORK: usize = 32;
+
 fn show_number(name: &[u8], x: usize) {
     text(name);
     number(x);
@@ -33,19 +35,24 @@ fn show_last(network: &[u8], count: usize) {
     }
 }
 
-// Whether all bytes past so many sixteens still hold 99.
-fn kept(buffer: &[u8], sixteens: usize) -> bool {
+// Which record's byte i of a network buffer is, or which cell's it is of the work buffer.
+fn number_of(i: usize, work: bool) -> usize {
+    if work { i / WORK } else { i / RECORD }
+}
+
+// Whether all bytes past those of so many records, or of the work for so many cells, still hold 99.
+fn kept(buffer: &[u8], count: usize, work: bool) -> bool {
     for i in 0..buffer.len() {
-        if sixteens <= i / RECORD && buffer[i] != 99 {
+        if count <= number_of(i, work) && buffer[i] != 99 {
             return false;
         }
     }
     true
 }
 
-fn show_kept(name: &[u8], buffer: &[u8], sixteens: usize) {
+fn show_kept(name: &[u8], buffer: &[u8], count: usize, work: bool) {
     text(name);
-    if kept(buffer, sixteens) {
+    if kept(buffer, count, work) {
         text(b" kept");
     } else {
         text(b" changed");
@@ -56,14 +63,14 @@ fn show_answer(answer: CompileAnswer, shape: Shape, work: &[u8], network: &[u8])
     match answer {
         CompileAnswer::Refused(refusal) => {
             refused(refusal);
-            show_kept(b", work", work, 0);
-            show_kept(b", network", network, 0);
+            show_kept(b", work", work, 0, true);
+            show_kept(b", network", network, 0, false);
         }
         CompileAnswer::Records(count) => {
             show_number(b"records ", count);
             show_last(network, count);
-            show_kept(b", work", work, shape.cells());
-            show_kept(b", network", network, count);
+            show_kept(b", work", work, shape.cells(), true);
+            show_kept(b", network", network, count, false);
         }
     }
 }
@@ -73,12 +80,12 @@ fn show_forecast(shape: Shape, lower: &[u8], upper: &[u8], work: &mut [u8]) {
     match compile::forecast(shape, lower, upper, work) {
         ForecastAnswer::Refused(refusal) => {
             refused(refusal);
-            show_kept(b", work", work, 0);
+            show_kept(b", work", work, 0, true);
         }
         ForecastAnswer::Figures { records, depth } => {
             show_number(b"records ", records);
             show_number(b", depth ", depth);
-            show_kept(b", work", work, shape.cells());
+            show_kept(b", work", work, shape.cells(), true);
         }
     }
 }
@@ -110,9 +117,9 @@ fn attempt(
     work_room: usize,
     network_room: usize,
 ) {
-    let mut work = [99u8; 16384];
+    let mut work = [99u8; 32768];
     let mut network = [99u8; 49072];
-    if work_room <= 16384 {
+    if work_room <= 32768 {
         if network_room <= 49072 {
             compile_into(
                 name,
@@ -160,7 +167,7 @@ fn one_cell(name: &[u8], work: usize, network: usize) {
 }
 
 fn two_cells(name: &[u8], lower: &[u8], upper: &[u8]) {
-    attempt(name, shape_of(1, [2, 0, 0, 0], 2), lower, upper, 33, 17);
+    attempt(name, shape_of(1, [2, 0, 0, 0], 2), lower, upper, 65, 17);
 }
 
 // Two conditions of two values, two grades.
@@ -186,25 +193,25 @@ fn table_e(work: usize, network: usize) {
 }
 
 fn small() {
-    one_cell(b"one cell", 16, 16);
-    one_cell(b"one cell", 17, 17);
-    one_cell(b"one cell", 16, 15);
-    one_cell(b"one cell", 15, 16);
+    one_cell(b"one cell", 32, 16);
+    one_cell(b"one cell", 33, 17);
+    one_cell(b"one cell", 32, 15);
+    one_cell(b"one cell", 31, 16);
     two_cells(b"any grades", &[0, 0], &[1, 1]);
     two_cells(b"0 and 1", &[0, 1], &[0, 1]);
-    square(b"either", &EITHER, &EITHER, 65, 113);
-    square(b"both", &BOTH, &BOTH, 65, 113);
-    square(b"both to either", &BOTH, &EITHER, 65, 113);
-    table_e(64, 112);
-    table_e(70, 120);
-    table_e(64, 111);
-    table_e(63, 112);
+    square(b"either", &EITHER, &EITHER, 129, 113);
+    square(b"both", &BOTH, &BOTH, 129, 113);
+    square(b"both to either", &BOTH, &EITHER, 129, 113);
+    table_e(128, 112);
+    table_e(134, 120);
+    table_e(128, 111);
+    table_e(127, 112);
     attempt(
         b"F",
         shape_of(2, [2, 3, 0, 0], 3),
         &[1, 0, 0, 0, 2, 1],
         &[2, 1, 2, 0, 2, 2],
-        96,
+        192,
         208,
     );
 }
@@ -225,10 +232,10 @@ fn parity(work: usize, network: usize) {
 }
 
 fn parities() {
-    parity(128, 304);
-    parity(130, 310);
-    parity(128, 303);
-    parity(127, 304);
+    parity(256, 304);
+    parity(258, 310);
+    parity(256, 303);
+    parity(255, 304);
 }
 
 // Sums modulo 16 of three conditions of eight values and one of fewer.
@@ -249,10 +256,10 @@ fn large(name: &[u8], last: u8, work: usize, network: usize) {
 }
 
 fn largest() {
-    large(b"8 8 8 2", 2, 16384, 49072);
-    large(b"8 8 8 2", 2, 16384, 49071);
-    large(b"8 8 8 2", 2, 16383, 49072);
-    large(b"8 8 8 3", 3, 16384, 49072);
+    large(b"8 8 8 2", 2, 32768, 49072);
+    large(b"8 8 8 2", 2, 32768, 49071);
+    large(b"8 8 8 2", 2, 32767, 49072);
+    large(b"8 8 8 3", 3, 32768, 49072);
 }
 
 fn refusals() {
@@ -261,13 +268,13 @@ fn refusals() {
         shape_of(2, [2, 1, 0, 0], 2),
         &E,
         &E,
-        64,
+        128,
         112,
     );
-    square(b"E, lower of 3 bytes", &[0, 1, 1], &E, 64, 112);
-    square(b"E, upper of 3 bytes", &E, &[0, 1, 1], 64, 112);
-    square(b"lower above upper", &EITHER, &E, 64, 112);
-    square(b"upper is m", &E, &[0, 1, 1, 2], 64, 112);
+    square(b"E, lower of 3 bytes", &[0, 1, 1], &E, 128, 112);
+    square(b"E, upper of 3 bytes", &E, &[0, 1, 1], 128, 112);
+    square(b"lower above upper", &EITHER, &E, 128, 112);
+    square(b"upper is m", &E, &[0, 1, 1, 2], 128, 112);
 }
 
 // The first of several rows that apply.
@@ -277,23 +284,44 @@ fn orders() {
         shape_of(2, [2, 2, 0, 0], 1),
         &EITHER,
         &E,
-        63,
+        127,
         111,
     );
-    square(b"lower above upper", &EITHER, &E, 64, 111);
-    square(b"lower above upper", &EITHER, &E, 63, 112);
+    square(b"lower above upper", &EITHER, &E, 128, 111);
+    square(b"lower above upper", &EITHER, &E, 127, 112);
     square(
         b"lower above upper, upper of 3 bytes",
         &EITHER,
         &[0, 1, 0],
-        64,
+        128,
         112,
+    );
+}
+
+// Two conditions of two values, three grades: no two sets join, and a weak join counts. The buffers are just as
+// long as the calls ask for.
+fn weak(name: &[u8], lower: &[u8], upper: &[u8]) {
+    attempt(name, shape_of(2, [2, 2, 0, 0], 3), lower, upper, 128, 112);
+}
+
+fn weak_joins() {
+    weak(b"weak at condition 0", &[0, 1, 1, 2], &[0, 1, 1, 2]);
+    weak(b"weak at condition 1", &[0, 1, 2, 0], &[0, 2, 2, 1]);
+    weak(b"weak, not kept", &[0, 1, 1, 0], &[0, 1, 1, 0]);
+    attempt(
+        b"weak in weak",
+        shape_of(3, [2, 2, 2, 0], 3),
+        &[0, 1, 1, 2, 1, 2, 2, 2],
+        &[0, 1, 1, 2, 1, 2, 2, 2],
+        256,
+        304,
     );
 }
 
 fn main() {
     small();
     parities();
+    weak_joins();
     largest();
     refusals();
     orders();

@@ -42,7 +42,7 @@ use Rattle.grades.specs.Answering.{tableRows}
 
 -- a compile's answer
 module _ {shape : Shape} {lower upper work network : List ℕ} {a : CompileAnswer} {work′ network′ : List ℕ} (c : Compiles shape lower upper work network a work′ network′)
-    (p : length work ≡ 16384) (q : length network ≡ 49072) where
+    (p : length work ≡ 32768) (q : length network ≡ 49072) where
   abbrev ks : List ℕ
   ks = placesOf shape
 
@@ -64,7 +64,7 @@ module _ {shape : Shape} {lower upper work network : List ℕ} {a : CompileAnswe
   pub listing-printed : (n : ℕ) → a ≡ Records n → listing (recordsFrom ks network′ 0 n) ≡ printed (tableRows shape lower upper)
   listing-printed n e =
       let made = was-accepted (tableRows shape lower upper) (sym e ∙ answers) in
-      let is : rs ≡ made .0 = accepted-records (shape .n) (shape .m) (length lower) (length upper) 16384 49072 (cardsOf shape) l (made .1) in
+      let is : rs ≡ made .0 = accepted-records (shape .n) (shape .m) (length lower) (length upper) 32768 49072 (cardsOf shape) l (made .1) in
       let whole : tableRows shape lower upper ≡ accepted rs = made .1 ∙ ap accepted (sym is) in
       let counted : n ≡ length rs = made .2 ∙ ap length (sym is) in
       let bytes : network′ ≡ networkBytes rs ++ drop (16 * length rs) network = c .network-after ∙ ap (λ (v : Verdict (List Record)). networkAfter v network) (same ∙ whole) in
@@ -105,7 +105,7 @@ module _ {file lower upper : List ℕ} {a : TableAnswer} {lower′ upper′ : Li
       let few = whole .kept .few in
       let some = cells-pos (places (s .cards)) (places-positive (s .cards)) in
       table-compiles file s whole lower upper lower′ upper′
-      (r .lower-after ∙ ap (λ (v : Verdict Seen). lowerAfter file v lower) (verdict ∙ own)) (r .upper-after ∙ ap (λ (v : Verdict Seen). upperAfter file v upper) (verdict ∙ own)) 16384 49072
+      (r .lower-after ∙ ap (λ (v : Verdict Seen). lowerAfter file v lower) (verdict ∙ own)) (r .upper-after ∙ ap (λ (v : Verdict Seen). upperAfter file v upper) (verdict ∙ own)) 32768 49072
       (omega arith) (let most = few-most (cells (places (s .cards))) some few in omega arith)
 
   pub file-listed : (shape : Shape) → a ≡ table.Table shape → printed (tableRows shape lower′ upper′) ≡ answerTo file

@@ -9,4 +9,4 @@ use Rattle.shape.specs.declared.Shape.{Shape}
 use Rattle.shape.specs.Shapes.{cardsOf, placesOf}
 
 abbrev pub tableRows : Shape → List ℕ → List ℕ → Verdict (List Record)
-tableRows shape lower upper = compileCall (shape .n) (cardsOf shape) (shape .m) (length lower) (length upper) 16384 49072 (lentLimits (placesOf shape) lower upper)
+tableRows shape lower upper = compileCall (shape .n) (cardsOf shape) (shape .m) (length lower) (length upper) 32768 49072 (lentLimits (placesOf shape) lower upper)

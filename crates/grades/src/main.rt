@@ -20,7 +20,7 @@ const INPUT: usize = 16529;
 const LISTING: usize = 190168;
 
 // What compiling the largest table needs: 16 bytes for each of 1,024 cells, and for each record.
-const WORK: usize = 16384;
+const WORK: usize = 32768;
 
 const NETWORK: usize = 49072;
 

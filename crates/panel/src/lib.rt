@@ -148,7 +148,7 @@ pub extern "C" fn grades_compile(
 }
 
 // What the network of a table will have: how many records, and in two bytes, low first, the depth of gates under
-// the last one. The work buffer has 16 bytes for each cell.
+// the last one. The work buffer has 32 bytes for each cell.
 #[no_mangle]
 pub extern "C" fn grades_forecast(
     shape: &[u8],

@@ -7,6 +7,7 @@ use lib.ListN.{length, drop}
 use Rattle.rules.specs.declared.Refusal.the-variants.{ShapeRange, ShortBuffer}
 use Rattle.rules.specs.Bytes.{word, Past}
 use Rattle.rules.specs.Cell.{cells}
+use Rattle.rules.specs.CompileCall.{compileWork}
 use Rattle.rules.specs.Verdict.{Verdict, accepted, refused, unless}
 use Rattle.rules.specs.Network.{networkRecords}
 use Rattle.rules.specs.Forecast.{Forecast, networkDepth}
@@ -47,4 +48,4 @@ module _ (bytes lower upper work depth : List ℕ) where
     pub depth-after : depth′ ≡ depthAfter verdict depth
     pub foretells : r < 65536 → Foretells r (word depth′ 0)
     pub refusal-keeps : 65536 ≤ r → work′ ≡ work
-    pub kept : Past (16 * cells (placesOf (lentShape bytes))) work work′
+    pub kept : Past (compileWork (cells (placesOf (lentShape bytes)))) work work′

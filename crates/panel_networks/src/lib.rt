@@ -68,7 +68,7 @@ fn put_word(buffer: &mut [u8], n: usize)
 }
 
 // What the network of a table will have: how many records, and in two bytes, low first, the depth of gates under
-// the last one. The work buffer has 16 bytes for each cell.
+// the last one. The work buffer has 32 bytes for each cell.
 pub fn forecast(shape: &[u8], lower: &[u8], upper: &[u8], work: &mut [u8], depth: &mut [u8]) -> u32
     ensures { λ r. ⌜ Forecasts (now (shape .entry)) (now (lower .entry)) (now (upper .entry)) (now (work .entry)) (now (depth .entry)) r (now (work .exit)) (now (depth .exit)) ⌝ }
 {

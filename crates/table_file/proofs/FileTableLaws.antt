@@ -89,7 +89,7 @@ module _ (file : List ℕ) (s : Seen) (a : Accepted file s) where
     long-enough : (l b : List ℕ) {t : List ℕ} → t ≡ l ++ b → length l ≡ cells ks → leb (cells ks) (length t) ≡ true
     long-enough l b {t} e h = le-leb (cells ks) (length t) (omega (arith, ap length e, length-append l b))
 
-    module _ (work network : ℕ) (work-room : 16 * cells ks ≤ work) (network-room : 16 * mostRecords (cells ks) ≤ network) where
+    module _ (work network : ℕ) (work-room : 32 * cells ks ≤ work) (network-room : 16 * mostRecords (cells ks) ≤ network) where
       room : compileRoom (cells ks) (length lower′) (length upper′) work network ≡ true
       room =
           let long = limits-long in

@@ -19,7 +19,7 @@ use Rattle.rules.specs.Visits.{visitByte}
 use Rattle.rules.specs.Verdict.{Verdict, accepted, verdictNumber, roomy}
 use Rattle.rules.specs.TableFile.{Seen, fileLimits, judgeFile, judgeReading, AsListed}
 use Rattle.rules.specs.Demands.{Between, compiledRecords}
-use Rattle.rules.specs.CompileCall.{mostRecords, compileRoom, lentLimits}
+use Rattle.rules.specs.CompileCall.{mostRecords, compileWork, compileRoom, lentLimits}
 use Rattle.rules.specs.Forecast.{networkDepth}
 use Rattle.laws.proofs.TestLaws.{passes, passed, and-l, and-both}
 use Rattle.laws.proofs.VerdictLaws.{row-pass, row-passed, last-passed}
@@ -109,7 +109,7 @@ module _ (bytes lower upper work network : List ℕ) (n : ℕ) (work′ network�
     checks-within after r found =
         let limit-room : Bool = roomy (cells ks) (length lower ∷ length upper ∷ []) in
         let both : (limit-room && leb (length net / 16) (length w)) ≡ true =
-        and-both (passed limit-room (and-l limit-room (leb (16 * cells ks) (length work)) (and-l (limit-room && leb (16 * cells ks) (length work)) (leb (16 * mostRecords (cells ks)) (length network)) (pass .room)))) roomy-work in
+        and-both (passed limit-room (and-l limit-room (leb (32 * cells ks) (length work)) (and-l (limit-room && leb (32 * cells ks) (length work)) (leb (16 * mostRecords (cells ks)) (length network)) (pass .room)))) roomy-work in
         let verdict : lent bytes (λ s. checkRows s net lower upper w) ≡ accepted (checkFrom ks (limitsOf lower upper) net 0 (cells ks)) =
         ten-lent bytes (λ s. checkRows s net lower upper w) (pass .ten)
         ∙ row-pass ShapeRange _ (pass .sound) ∙ row-pass ShortBuffer _ both ∙ row-pass GradeLimits _ (pass .limits) ∙ row-pass Network _ sound-network in
@@ -178,7 +178,7 @@ module _ (file shape lower upper shape′ lower′ upper′ : List ℕ) (got : R
   obeys : (cell q : ℕ) → cell < cells (places (s .cards)) → Between (limitsOf lower′ upper′) cell q → Obeys file s cell q
   obeys cell q h b = record { within = at-file cell q h b; unforeseen = λ none. omega (arith, listed .unlisted cell h none .0, b .0) }
 
-  module _ (work network work′ network′ : List ℕ) (n : ℕ) (work-room : 16 * lentCells (take 10 shape′) ≤ length work) (network-room : 16 * mostRecords (lentCells (take 10 shape′)) ≤ length network)
+  module _ (work network work′ network′ : List ℕ) (n : ℕ) (work-room : compileWork (lentCells (take 10 shape′)) ≤ length work) (network-room : 16 * mostRecords (lentCells (take 10 shape′)) ≤ length network)
       (done : Compiles (take 10 shape′) lower′ upper′ work network n work′ network′) where
     abbrev rows : Shape → Verdict (List Record)
     rows y = compileRows y lower′ upper′ work network
@@ -187,7 +187,7 @@ module _ (file shape lower upper shape′ lower′ upper′ : List ℕ) (got : R
     accepts =
         ap (λ (b : List ℕ). lent b rows) bytes
         ∙ table-compiles file s whole lower upper lower′ upper′ lower-is upper-is (length work) (length network)
-        (subst (λ (c : ℕ). 16 * c ≤ length work) same-cells work-room) (subst (λ (c : ℕ). 16 * mostRecords c ≤ length network) same-cells network-room)
+        (subst (λ (c : ℕ). compileWork c ≤ length work) same-cells work-room) (subst (λ (c : ℕ). 16 * mostRecords c ≤ length network) same-cells network-room)
 
     counted : n < 65536
     counted = omega (arith, done .answer ∙ ap (λ (v : Verdict (List Record)). callNumber v length) accepts, few-compiled (file-table file s whole))

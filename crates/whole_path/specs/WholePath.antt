@@ -11,7 +11,7 @@ use Rattle.rules.specs.Shape.{places}
 use Rattle.rules.specs.Verdict.{accepted}
 use Rattle.rules.specs.TableFile.{Seen, judgeFile, fileLimits, Unlisted}
 use Rattle.rules.specs.Network.{networkRecords}
-use Rattle.rules.specs.CompileCall.{mostRecords}
+use Rattle.rules.specs.CompileCall.{mostRecords, compileWork}
 use Rattle.rules.specs.Forecast.{networkDepth}
 use Rattle.rules.specs.Demands.{Between}
 use Rattle.panel_answers.specs.Answers.{lentCells}
@@ -59,6 +59,6 @@ module _ (file shape lower upper : List ℕ) (n : ℕ) (network : List ℕ) wher
 -- a file that reading accepts, whatever the buffers held before, and compiling with room for the table that it holds
 abbrev pub WholePath : Type 0
 WholePath = (file shape lower upper shape′ lower′ upper′ : List ℕ) → Reads file shape lower upper 0 shape′ lower′ upper′
-    → (work network work′ network′ : List ℕ) (n : ℕ) → 16 * lentCells (take 10 shape′) ≤ length work → 16 * mostRecords (lentCells (take 10 shape′)) ≤ length network
+    → (work network work′ network′ : List ℕ) (n : ℕ) → compileWork (lentCells (take 10 shape′)) ≤ length work → 16 * mostRecords (lentCells (take 10 shape′)) ≤ length network
     → Compiles (take 10 shape′) lower′ upper′ work network n work′ network′
     → Followed file shape′ lower′ upper′ n network′

@@ -41,7 +41,7 @@ slice-relend-prefix-stage c =
 
 slice-aggregate-stage : tie.Need-slice-aggregate-stage
 slice-aggregate-stage c =
-    sym (length-take-le (16 * c .before .before .before .before .before .before .before .before .before .cells .result) (c .before .before .before .load2 .last .0) (slice-relend-prefix-stage (c .before)))
+    sym (length-take-le (32 * c .before .before .before .before .before .before .before .before .before .cells .result) (c .before .before .before .load2 .last .0) (slice-relend-prefix-stage (c .before)))
 
 places-requires : tie.Need-places-requires
 places-requires c κs = search needs

@@ -7,13 +7,16 @@ use Rattle.compile_cases.proofs.kept.Statement.{statement}
 use Rattle.compile_cases.proofs.kept.Tie as tie
 
 abbrev Inv-loop : tie.InvT-loop
-Inv-loop buffer sixteens i₀ i-end i = i-end ≡ length buffer
+Inv-loop buffer count work i₀ i-end i = i-end ≡ length buffer
 
 abbrev μ-loop : tie.MeasureT-loop
-μ-loop buffer sixteens i₀ i-end i = i-end - i
+μ-loop buffer count work i₀ i-end i = i-end - i
 
 loop-holds : tie.Need-loop-holds Inv-loop μ-loop
 loop-holds c = search needs
+
+number-of-requires : tie.Need-number-of-requires Inv-loop μ-loop
+number-of-requires c κs = search needs
 
 shared-slice-read-if2 : tie.Need-shared-slice-read-if2 Inv-loop μ-loop
 shared-slice-read-if2 c = search needs
@@ -40,6 +43,7 @@ kept-spec =
     Inv-loop
     μ-loop
     loop-holds
+    number-of-requires
     shared-slice-read-if2
     returns
     add-i
