@@ -106,7 +106,7 @@ extern "C" {
  *   GRADES_RUN_WORK_BYTES         work of grades_check, grades_evaluate and
  *                                 grades_evaluate_each
  */
-#define GRADES_COMPILE_WORK_BYTES(cells) (16u * (cells))
+#define GRADES_COMPILE_WORK_BYTES(cells) (32u * (cells))
 #define GRADES_COMPILE_NETWORK_BYTES(cells) \
     (16u * ((cells) == 1u ? 1u : 3u * (cells) - 5u))
 #define GRADES_DEPTH_BYTES 2
@@ -125,7 +125,7 @@ extern "C" {
 #define GRADES_READ_STACK_BYTES 1024
 #define GRADES_RUN_STACK_BYTES 5120
 #define GRADES_EACH_STACK_BYTES 6144
-#define GRADES_COMPILE_STACK_BYTES 6144
+#define GRADES_COMPILE_STACK_BYTES 12288
 #define GRADES_JOIN_STACK_BYTES 9216
 
 /*
@@ -243,8 +243,8 @@ uint32_t grades_join_min_second(const uint8_t *shape, size_t shape_bytes,
  * Compiles a table: writes the records of a network whose grade is within the
  * limits in every cell.
  *
- * work: GRADES_COMPILE_WORK_BYTES(cells), sixteen for each cell; any contents.
- * They hold anything after records were written.
+ * work: GRADES_COMPILE_WORK_BYTES(cells), 32 for each cell; any contents. They
+ * hold anything after records were written.
  * network: GRADES_COMPILE_NETWORK_BYTES(cells), sixteen for each of
  * 3 * cells - 5 records, or for one record where there is one cell.
  *

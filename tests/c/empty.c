@@ -11,7 +11,7 @@
 #include <sys/mman.h>
 
 #define MOST_BUFFERS 6
-#define MOST_BYTES 112
+#define MOST_BYTES 128
 #define GUARD 64
 
 /* A call's buffers: what each holds, or NULL where the call is to write it, and

@@ -10,8 +10,12 @@
 static const uint8_t not_grades[CELLS] = {0, 0, 0, 2};
 static const uint8_t of_second[CELLS] = {0, 0, 1, 1};
 
+/* The shape of E with a grade more, and the sum of its two values. */
+static const uint8_t three_grades[GRADES_SHAPE_BYTES] = {2, 2, 2, 0, 0, 0, 0, 0, 0, 3};
+static const uint8_t sum[CELLS] = {0, 1, 1, 2};
+
 /* Buffers to write: each is longer than a call asks for. */
-static uint8_t shape[16], lower[16], upper[16], work[160], network[256], depth[16], grades[16];
+static uint8_t shape[16], lower[16], upper[16], work[320], network[256], depth[16], grades[16];
 
 static void fill_buffers(void)
 {
@@ -198,14 +202,14 @@ static void compiling(void)
     const char *name = "compiling";
     uint32_t cell;
 
-    check_refused("nine bytes of shape", compile(9, odd, odd, 64, 112), GRADES_REFUSED_SHAPE);
-    check_refused("a work byte too few", compile(10, odd, odd, 63, 112), GRADES_REFUSED_BUFFER);
-    check_refused("a network byte too few", compile(10, odd, odd, 64, 111), GRADES_REFUSED_BUFFER);
-    check_refused("limits in disorder", compile(10, either, odd, 64, 112), GRADES_REFUSED_LIMITS);
+    check_refused("nine bytes of shape", compile(9, odd, odd, 128, 112), GRADES_REFUSED_SHAPE);
+    check_refused("a work byte too few", compile(10, odd, odd, 127, 112), GRADES_REFUSED_BUFFER);
+    check_refused("a network byte too few", compile(10, odd, odd, 128, 111), GRADES_REFUSED_BUFFER);
+    check_refused("limits in disorder", compile(10, either, odd, 128, 112), GRADES_REFUSED_LIMITS);
 
-    check_answer(name, compile(10, odd, odd, 64, 112), 7);
+    check_answer(name, compile(10, odd, odd, 128, 112), 7);
     check_front(name, network, sizeof network, parity, parity_bytes);
-    check(all_filled(work + 64, work + sizeof work), name, "work bytes changed that must stay");
+    check(all_filled(work + 128, work + sizeof work), name, "work bytes changed that must stay");
     for (cell = 0; cell < CELLS; cell++)
         check_answer("a compiled grade",
                      grades_evaluate(network, parity_bytes, square, 10, work, 7, cell), odd[cell]);
@@ -215,6 +219,37 @@ static void compiling(void)
                                       CELLS, work, 7),
                  0);
     check_front(name, grades, sizeof grades, odd, CELLS);
+}
+
+/* Where no two sets join: the records of a weak join that has fewer than the
+ * split, and of a split whose weak join has more; then no byte is written
+ * behind the split's, though the weak join's would have reached there. */
+static void compiling_weakly(void)
+{
+    static const uint8_t joined[5][GRADES_RECORD_BYTES] = {
+        {1, 0, 0, 0, 0, 0, 0, 0, 0, 2}, {1, 1, 0, 0, 0, 0, 0, 0, 1, 2}, {2, 0, 0, 0, 0, 0, 1, 0},
+        {1, 1, 0, 0, 0, 0, 0, 0, 0, 1}, {3, 0, 0, 0, 2, 0, 3, 0},
+    };
+    uint8_t split[7][GRADES_RECORD_BYTES];
+    const char *name = "a weak join that is kept";
+
+    fill_buffers();
+    check_answer(name,
+                 grades_compile(three_grades, 10, sum, CELLS, sum, CELLS, work, 128, network,
+                                sizeof network),
+                 5);
+    check_front(name, network, sizeof network, joined, sizeof joined);
+
+    /* As E's network, but for the literals that select a value: they have 2 for 1. */
+    name = "a weak join that is not kept";
+    memcpy(split, parity, sizeof split);
+    split[0][8] = split[3][9] = 2;
+    fill_buffers();
+    check_answer(name,
+                 grades_compile(three_grades, 10, odd, CELLS, odd, CELLS, work, 128, network,
+                                sizeof network),
+                 7);
+    check_front(name, network, sizeof network, split, sizeof split);
 }
 
 /* A forecast. No network is lent. */
@@ -258,24 +293,26 @@ static void forecasting(void)
     expect_forecast("a min of two literals", square, both, CELLS, 3, 1);
     expect_forecast("a literal", square, of_first, CELLS, 1, 0);
     expect_forecast("a constant", square, always, CELLS, 1, 0);
+    expect_forecast("a weak join that is kept", three_grades, sum, CELLS, 5, 2);
+    expect_forecast("a weak join that is not kept", three_grades, odd, CELLS, 7, 2);
 
-    check_refused("nine bytes of shape", forecast(square, 9, odd, odd, CELLS, 64, 2),
+    check_refused("nine bytes of shape", forecast(square, 9, odd, odd, CELLS, 128, 2),
                   GRADES_REFUSED_SHAPE);
-    check_refused("three limits", forecast(square, 10, odd, odd, CELLS - 1, 64, 2),
+    check_refused("three limits", forecast(square, 10, odd, odd, CELLS - 1, 128, 2),
                   GRADES_REFUSED_BUFFER);
-    check_refused("a work byte too few", forecast(square, 10, odd, odd, CELLS, 63, 2),
+    check_refused("a work byte too few", forecast(square, 10, odd, odd, CELLS, 127, 2),
                   GRADES_REFUSED_BUFFER);
-    check_refused("one byte for the depth", forecast(square, 10, odd, odd, CELLS, 64, 1),
+    check_refused("one byte for the depth", forecast(square, 10, odd, odd, CELLS, 128, 1),
                   GRADES_REFUSED_BUFFER);
-    check_refused("limits in disorder", forecast(square, 10, either, odd, CELLS, 64, 2),
+    check_refused("limits in disorder", forecast(square, 10, either, odd, CELLS, 128, 2),
                   GRADES_REFUSED_LIMITS);
     /* Of two faults, the one that is tested for first. */
     check_refused("nine bytes of shape, no other bytes", forecast(square, 9, either, odd, 0, 0, 0),
                   GRADES_REFUSED_SHAPE);
     check_refused("limits in disorder, a work byte too few",
-                  forecast(square, 10, either, odd, CELLS, 63, 2), GRADES_REFUSED_BUFFER);
+                  forecast(square, 10, either, odd, CELLS, 127, 2), GRADES_REFUSED_BUFFER);
     check_refused("limits in disorder, one byte for the depth",
-                  forecast(square, 10, either, odd, CELLS, 64, 1), GRADES_REFUSED_BUFFER);
+                  forecast(square, 10, either, odd, CELLS, 128, 1), GRADES_REFUSED_BUFFER);
 }
 
 /* Checking E's network. */
@@ -314,6 +351,7 @@ int main(void)
     joining(&joins[0]);
     joining(&joins[1]);
     compiling();
+    compiling_weakly();
     forecasting();
     checking();
     return checked("panel");

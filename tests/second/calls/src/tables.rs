@@ -21,7 +21,40 @@ fn values(cards: &[u8], mut cell: usize) -> Vec<u8> {
     cards.iter().map(value).collect()
 }
 
+/// A function of seven conditions of two values, a digit for each cell.
+const SEVEN_TWOS: &str = "\
+    2bb9fc8dea6bdefcc638abb60fecca6dc65febb07ea2f24e1ba7fa9be5af8eeb\
+    5a4c3ee51795c4198a91c95e724d3ed80fa7dacdd58a9aa6d46cbff43e97ec2d";
+
+/// Tables of 1,024 cells that take long to compile, named by how many stages are built. Most of these that have two
+/// conditions or more have no grouping, and half of those build a weak join beside the split. A search found them that
+/// changed grades, and kept what had more stages.
+pub fn with_most_stages() -> [(&'static str, OwnedTable); 3] {
+    // Each value of the first condition has the function with some of the seven conditions turned round.
+    let turned = OwnedTable::by_rule(&[8, 2, 2, 2, 2, 2, 2, 2], 16, |values| {
+        let cell = values[1..].iter().rev().fold(0, |cell, &value| 2 * cell + value as usize);
+        let digit = SEVEN_TWOS.as_bytes()[cell ^ (37 * values[0] as usize % 128)] as char;
+        let grade = digit.to_digit(16).unwrap_or(0) as u8;
+        (grade, grade)
+    });
+    let inner = OwnedTable::by_sum(&[2, 2, 2, 4, 4, 2, 2, 2], 16, &[11, 13, 3, 4, 10, 14, 6, 7, 9, 13, 1, 3, 4]);
+    let last = OwnedTable::by_sum(&[2, 2, 2, 2, 2, 2, 4, 4], 16, &[1, 3, 4, 1, 0, 5, 8, 10, 7, 4, 1, 14, 14]);
+    [
+        ("8 2⁷ of 182,925 stages, m 16", turned),
+        ("2³ 4 4 2³ of 159,433 stages, m 16", inner),
+        ("2⁶ 4 4 of 153,343 stages, m 16", last),
+    ]
+}
+
 impl OwnedTable {
+    /// A table with one grade for each cell, by the sum of its values.
+    pub fn by_sum(cards: &[u8], grades: u8, of_sum: &[u8]) -> OwnedTable {
+        OwnedTable::by_rule(cards, grades, |values| {
+            let grade = of_sum[values.iter().map(|&value| value as usize).sum::<usize>()];
+            (grade, grade)
+        })
+    }
+
     /// A table by a rule from values to limits.
     pub fn by_rule(cards: &[u8], grades: u8, mut rule: impl FnMut(&[u8]) -> (u8, u8)) -> OwnedTable {
         let mut shape = vec![cards.len() as u8];

@@ -2,8 +2,8 @@
 //!
 //!     compare [vectors | program] [--against plain|library] [--seed N] [--seconds S | --hours H]
 //!
-//! One run is every table of the tiny shapes and what the seed decides. With a time, it goes on with new seeds. With
-//! `vectors`, it is the published tables instead; with `program`, what the program `grades` prints.
+//! One run is every table of the tiny shapes, tables with many stages, and what the seed decides. With a time, it goes on
+//! with new seeds. With `vectors`, it is the published tables instead; with `program`, what the program `grades` prints.
 
 mod lent;
 mod program;
@@ -93,19 +93,22 @@ fn program(seed: u64) -> bool {
     outcome.is_ok()
 }
 
-/// A session on the tables that a seed decides; whether all was equal and each refusal was seen.
-fn compare(calls: &dyn Calls, seed: u64, with_tiny: bool) -> bool {
+/// A session on the tables that a seed decides; whether all was equal, and each refusal was seen, and weak joins that are
+/// kept and that are not.
+fn compare(calls: &dyn Calls, seed: u64, with_same: bool) -> bool {
     let mut session = Session::new(calls, seed);
-    let tiny = if with_tiny { rounds::tiny(&mut session) } else { Ok(()) };
-    let outcome = tiny.and_then(|()| rounds::round(&mut session));
+    let same = if with_same { rounds::same(&mut session) } else { Ok(()) };
+    let outcome = same.and_then(|()| rounds::round(&mut session));
     let unseen = session.unseen();
     let refusals = match &outcome {
         Err(_) => "seen until the difference only".into(),
         Ok(()) if unseen.is_empty() => "seen 1..12".into(),
         Ok(()) => format!("not seen {unseen:?}"),
     };
-    conclude(&outcome, &format!("compare: {} cases, seed {seed}, refusals {refusals}", session.cases));
-    outcome.is_ok() && unseen.is_empty()
+    let [kept, rejected] = session.with_weak_joins;
+    let weak = format!("tables with weak joins: {kept} keep one, {rejected} reject one");
+    conclude(&outcome, &format!("compare: {} cases, seed {seed}, {weak}, refusals {refusals}", session.cases));
+    outcome.is_ok() && unseen.is_empty() && kept > 0 && rejected > 0
 }
 
 fn main() -> ExitCode {
@@ -117,7 +120,7 @@ fn main() -> ExitCode {
     let mut seed = first;
     loop {
         let equal = match part {
-            // The tables of the tiny shapes are the same for every seed.
+            // What no seed decides is compared once.
             Part::Calls => compare(&*against, seed, seed == first),
             Part::Program => program(seed),
             Part::Vectors => return exit_code(published(&*against)),

@@ -2,8 +2,8 @@
 
 use crate::random::Random;
 use crate::session::{Block, Join, Outcome, Session, compile_rooms};
-use crate::tables::{all_tables, cardinality_lists, damage, joined_table, some_table};
-use calls::tables::OwnedTable;
+use crate::tables::{all_tables, cardinality_lists, damage, joined_table, some_table, ungrouped_table};
+use calls::tables::{OwnedTable, with_most_stages};
 use calls::{Gate, Sets};
 
 const GATES: [Gate; 2] = [Gate::Max, Gate::Min];
@@ -12,12 +12,15 @@ const WRONG: [u8; 9] = [0, 1, 2, 3, 4, 8, 9, 16, 255];
 /// How many numbers a list has: none, one, some, or several hundred.
 const LISTED: [usize; 4] = [0, 1, 9, 400];
 
-/// Everything that the tiny shapes have.
-pub fn tiny(session: &mut Session) -> Outcome<()> {
+/// What no seed decides: everything that the tiny shapes have, and the tables with most stages.
+pub fn same(session: &mut Session) -> Outcome<()> {
     for (cards, grades) in [(&[2, 2][..], 2), (&[2, 2], 3), (&[2, 3], 2), (&[2, 2, 2], 2)] {
         for table in all_tables(cards, grades) {
             whole_table(session, &table)?;
         }
+    }
+    for (_, table) in with_most_stages() {
+        whole_table(session, &table)?;
     }
     Ok(())
 }
@@ -31,7 +34,8 @@ pub fn round(session: &mut Session) -> Outcome<()> {
     lent_shapes_and_limits(session)?;
     lent_sets(session)?;
     foreign_networks(session)?;
-    every_pair_of_sets(session)
+    every_pair_of_sets(session)?;
+    weak_joins(session)
 }
 
 /// Every list of cardinalities, rising and falling, each with a table.
@@ -450,6 +454,24 @@ fn blocks_that_join(session: &mut Session, cards: &[u8], join: Join) -> Outcome<
     let tried = if session.random.once_in(4) { 2 } else { 1 };
     for first in &firsts[..tried] {
         session.join(&table, join, Some(first), rooms)?;
+    }
+    Ok(())
+}
+
+/// Tables in which many stages have no grouping: with every number of grades, of few cells and of several.
+fn weak_joins(session: &mut Session) -> Outcome<()> {
+    let few = [&[2, 2][..], &[2, 3], &[3, 2], &[2, 2, 2], &[3, 3], &[2, 3, 2], &[4, 4], &[2, 2, 2, 2]];
+    let several = [&[3, 2, 3, 2][..], &[8, 2, 2], &[2, 2, 8], &[2, 2, 2, 2, 2], &[4, 2, 2, 3]];
+    for grades in 2..=16 {
+        for (shapes, times) in [(&few[..], 40), (&several, 4)] {
+            for cards in shapes {
+                for _ in 0..times {
+                    let table = ungrouped_table(cards, grades, &mut session.random);
+                    let network = session.compile(&table, compile_rooms(table.cells()))?.unwrap_or_default();
+                    session.check(&network, &table, network.len() / 16)?;
+                }
+            }
+        }
     }
     Ok(())
 }

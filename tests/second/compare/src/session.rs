@@ -5,6 +5,7 @@ use crate::random::Random;
 use calls::tables::OwnedTable;
 use calls::{Calls, Gate, Limits, NO_CELL, REFUSED, REFUSED_EVALUATION, Sets, Table};
 use oracle::network::Record;
+use oracle::stages::WeakJoins;
 use oracle::{Answer, file, join, network, refusal, stages};
 
 /// The error is a report of the first difference.
@@ -25,11 +26,15 @@ pub struct Session<'a> {
     pub random: Random,
     pub cases: u64,
     seen: [bool; 13],
+    /// The weak joins of the table that was compiled last.
+    pub weak_joins: WeakJoins,
+    /// In how many of the tables compiled one is kept, and in how many one is built and gives way to the split.
+    pub with_weak_joins: [u64; 2],
 }
 
 /// The bytes that compiling asks for as work and as network, and those that a forecast asks for as depth.
 pub fn compile_rooms(cells: usize) -> [usize; 3] {
-    [16 * cells, 16 * if cells == 1 { 1 } else { 3 * cells - 5 }, 2]
+    [32 * cells, 16 * if cells == 1 { 1 } else { 3 * cells - 5 }, 2]
 }
 
 /// A call that is lent a table and a work buffer and writes to one more: its name, that buffer's, and how it is made.
@@ -67,7 +72,8 @@ fn table(lent: &[Lent; 3]) -> Table<'_> {
 
 impl<'a> Session<'a> {
     pub fn new(calls: &'a dyn Calls, seed: u64) -> Session<'a> {
-        Session { calls, random: Random::new(seed), cases: 0, seen: [false; 13] }
+        let weak_joins = WeakJoins::default();
+        Session { calls, random: Random::new(seed), cases: 0, seen: [false; 13], weak_joins, with_weak_joins: [0; 2] }
     }
 
     /// The refusals that no call has answered.
@@ -172,6 +178,10 @@ impl<'a> Session<'a> {
         let bytes = |records: &[Record]| records.iter().flat_map(|record| record.to_bytes()).collect();
         let wanted = lent.compile(network).map(|records| (records.len() as u32, bytes(records)));
         let written = self.write(COMPILE, given, [work, network], wanted)?;
+        self.weak_joins = lent.weak_joins();
+        let WeakJoins { kept, rejected } = self.weak_joins;
+        self.with_weak_joins[0] += (kept > 0) as u64;
+        self.with_weak_joins[1] += (rejected > 0) as u64;
         match (foretold, written) {
             (Some(foretold), Some((_, network))) if foretold != figures(&network) => {
                 Err(format!("case {}: forecast {foretold:?} of a network that has {:?}", self.cases, figures(&network)))
@@ -193,7 +203,7 @@ impl<'a> Session<'a> {
         let mut to = Lent::noise(writes, rooms[1], &mut self.random);
         let wanted = wanted.map(|(answer, bytes)| {
             to.expect(&bytes);
-            work.leave_free(16 * cells_of(&given.shape));
+            work.leave_free(32 * cells_of(&given.shape));
             (answer, (answer, bytes))
         });
         let answer = call(self.calls, table(&lent), work.held_mut(), to.held_mut());

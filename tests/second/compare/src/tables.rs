@@ -87,6 +87,20 @@ pub fn some_table(cards: &[u8], grades: u8, random: &mut Random) -> OwnedTable {
     }
 }
 
+/// A table of which few stages have a grouping: the sum of the values, or noise, in some of the grades; some cells with
+/// wider limits, and some for which any grade will do.
+pub fn ungrouped_table(cards: &[u8], grades: u8, random: &mut Random) -> OwnedTable {
+    let noise = random.once_in(2);
+    let (least, used) = (random.byte() % (grades - 1), 2 + random.byte() % (grades - 1));
+    let (moved, free) = (2 + random.below(9), 2 + random.below(20));
+    OwnedTable::by_rule(cards, grades, |values| {
+        let sum = if noise { random.byte() } else { values.iter().sum() };
+        let grade = (least + sum % used).min(grades - 1);
+        let width = if random.once_in(moved) { 3 } else { 1 };
+        if random.once_in(free) { (0, grades - 1) } else { around(grade, grades, random, width) }
+    })
+}
+
 /// A table that joins by these sets. On a line over one of them some four cells decide the limits, however long the line
 /// is: else a cell that is left out would seldom show.
 pub fn joined_table(cards: &[u8], gate: Gate, sets: Sets, random: &mut Random) -> OwnedTable {

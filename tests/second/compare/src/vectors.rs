@@ -4,6 +4,7 @@
 use crate::session::{Join, Outcome, Session, compile_rooms};
 use calls::Gate;
 use calls::tables::OwnedTable;
+use oracle::stages::WeakJoins;
 
 type Limits = (u8, u8);
 
@@ -213,17 +214,20 @@ fn unlisted(session: &mut Session, table: &OwnedTable) -> Outcome<String> {
 /// them, and fails where a document's fact does not hold.
 pub fn run(session: &mut Session) -> Outcome<()> {
     println!(
-        "| table | cells | records | gates | literals | printed: gates, literals | don't-cares; records if not listed |"
+        "| table | cells | records | gates | literals | weak joins: kept, rejected | printed: gates, literals \
+         | don't-cares; records if not listed |"
     );
-    println!("|---|---|---|---|---|---|---|");
+    println!("|---|---|---|---|---|---|---|---|");
     for Vector { name, printed, table, facts } in
         [figures_of_000(), figures_of_001(), public_tables()].into_iter().flatten()
     {
         let cells = table.cells();
         let network = compile(session, &table)?;
+        let WeakJoins { kept, rejected } = session.weak_joins;
         let unlisted = unlisted(session, &table).map_err(|fault| format!("{name}: {fault}"))?;
         let (records, gates, literals) = (network.len() / 16, count(&network, &[2, 3]), count(&network, &[1]));
-        println!("| {name} | {cells} | {records} | {gates} | {literals} | {printed} | {unlisted} |");
+        let weak = format!("{kept}, {rejected}");
+        println!("| {name} | {cells} | {records} | {gates} | {literals} | {weak} | {printed} | {unlisted} |");
         for (number, fact) in facts.iter().enumerate() {
             if !holds(session, &table, &network, fact)? {
                 return Err(format!("{name}: fact {number} does not hold"));

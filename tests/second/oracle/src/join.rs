@@ -13,6 +13,11 @@
 //! one with the greatest second function. Off the line that is the pair of the greatest again, so only the line is
 //! looked at. The second block is found in the same way, beside the first block given. For min the functions are the
 //! least that are below no lower limit.
+//!
+//! A weak join has no condition in T: its first block is blind to nothing, and the table itself could be one. It is of
+//! use where the greatest second function alone is within the limits and the table asks for something, that is, does
+//! not let the first block be idle: have the grade that changes nothing, 0 for max and the last for min. There the first
+//! block is relieved of what the table asks.
 
 use crate::search::{Search, seen_without};
 use crate::{Answer, Gate, Limits, Shape, Table, Values, refusal, stop_if};
@@ -73,6 +78,21 @@ pub fn second_block(shape: &Shape, table: &Table, gate: Gate, s: u8, t: u8, firs
         assert!(searched.eq(found.clone()), "second blocks by lines and by search differ: {table:?} {s} {t}");
     }
     found
+}
+
+/// Whether a weak join asks less of its first block than the table does: in some cell the table does not let the first
+/// block be idle, and a second block that is blind to the set does there alone what is asked. Held to the first block's
+/// limits, which are then not the table's.
+pub fn relieves(shape: &Shape, table: &Table, gate: Gate, s: u8) -> bool {
+    let idle = match gate {
+        Gate::Max => 0,
+        Gate::Min => shape.grades - 1,
+    };
+    let mut second = furthest(shape, table, gate, s);
+    let relieved = |(&cell, limits): (&Values, &Limits)| !limits.allow(idle) && limits.allow(second(cell));
+    let relieves = table.limits.iter().any(relieved);
+    assert_eq!(relieves, first_block(shape, table, gate, s, 0) != table.limits, "a weak join of use: {table:?} {s}");
+    relieves
 }
 
 /// What a join call is lent. `rooms` are the lengths of the two buffers that it writes.

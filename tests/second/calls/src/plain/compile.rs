@@ -1,13 +1,18 @@
-//! Compiling and a forecast: document 01, "Stages". A stage of c cells has eight parts of c bytes of the work buffer and
-//! lends the rest to the stages that it starts, which have half of its cells at most. The stages of both calls are the
-//! same; they differ in what becomes of a record.
+//! Compiling and a forecast: document 01, "Stages", with the weak joins that request 5 has before a split. A stage of c
+//! cells has eight parts of c bytes of the work buffer and lends the rest to the stages that it starts. They have half of
+//! its cells at most, but for the first block of a weak join, which has all and takes no weak join itself: so a stage
+//! needs 32 × c bytes, and such a block 24 × c. The stages of both calls are the same; they differ in what becomes of a
+//! record.
 
-use super::grouping::Sides;
-use super::join::{exchange, reach};
+use super::grouping::{Sides, first_weak};
+use super::join::{Pair, exchange, reach};
 use super::records::{Counted, RECORD, Records, Written};
 use super::shape::{PLACES, Places, Shape, members};
 use super::{Answer, refuse_if};
 use crate::{Gate, Table};
+
+/// The work bytes for each cell.
+const WORK: usize = 32;
 
 pub fn compile(table: Table, work: &mut [u8], network: &mut [u8]) -> Answer<u32> {
     let room = network.len() / RECORD;
@@ -32,18 +37,25 @@ fn stages<R: Records>(
     let shape = Shape::from_bytes(table.shape)?;
     let cells = shape.cells;
     let shortest = table.lower.len().min(table.upper.len());
-    refuse_if(shortest < cells || work.len() < RECORD * cells || !has_room(cells), 10)?;
+    refuse_if(shortest < cells || work.len() < WORK * cells || !has_room(cells), 10)?;
     shape.judge_limits(table.lower, table.upper)?;
     work[..cells].copy_from_slice(&table.lower[..cells]);
     work[cells..2 * cells].copy_from_slice(&table.upper[..cells]);
     let mut compiling = Compiling { grades: shape.grades, records };
-    let last = compiling.stage(shape.places, &mut work[..RECORD * cells]);
+    let last = compiling.stage(shape.places, true, &mut work[..WORK * cells]);
     Ok((compiling.records, last))
 }
 
 struct Compiling<R> {
     grades: u8,
     records: R,
+}
+
+/// A join of a stage, by min in exchanged grades: the lower limits, and the sets with what the upper limits leave.
+struct Join<'a> {
+    gate: Gate,
+    lower: &'a [u8],
+    sides: Sides<'a>,
 }
 
 /// Drops what can be dropped from the limits at the front of the work buffer; the places left. Each kind of stage has it
@@ -75,14 +87,16 @@ fn drop_conditions(mut places: Places, work: &mut [u8]) -> Places {
 
 impl<R: Records> Compiling<R> {
     /// Compiles the limits at the front of the work buffer, and leaves there the grades of the function that the
-    /// records compute; the number that stands for the last record.
-    fn stage(&mut self, before: Places, work: &mut [u8]) -> usize {
+    /// records compute; the number that stands for the last record. `may`: whether the stage may take a weak join, as
+    /// it may where it has dropped a condition.
+    fn stage(&mut self, before: Places, may: bool, work: &mut [u8]) -> usize {
         let places = drop_conditions(before, work);
         let cells = places.cells;
+        let may = may || before.cells != cells;
         let last = match places.present.count_ones() {
             0 => self.records.constant(work[0]),
             1 => self.records.literal(places.present.trailing_zeros() as usize, &work[..cells]),
-            _ => self.join_or_split(&places, work),
+            _ => self.join_or_split(&places, may, work),
         };
         if before.cells != cells {
             self.put_back(&before, &places, work);
@@ -98,7 +112,7 @@ impl<R: Records> Compiling<R> {
         front.copy_from_slice(&spare[..all]);
     }
 
-    fn join_or_split(&mut self, places: &Places, work: &mut [u8]) -> usize {
+    fn join_or_split(&mut self, places: &Places, may: bool, work: &mut [u8]) -> usize {
         let cells = places.cells;
         let (own, rest) = work.split_at_mut(8 * cells);
         let mut parts = own.chunks_exact_mut(cells);
@@ -111,28 +125,53 @@ impl<R: Records> Compiling<R> {
         let max_exists = by_max.find(lower, upper, places);
         let min_exists = by_min.find(turned_lower, turned_upper, places);
         if max_exists && (!min_exists || by_max.rank() <= by_min.rank()) {
-            let last = self.join(Gate::Max, places, lower, &by_max, [turned_lower, turned_upper], rest);
+            let join = Join { gate: Gate::Max, lower, sides: by_max };
+            let last = self.join(places, &join, [turned_lower, turned_upper], rest);
             lower.copy_from_slice(turned_upper);
-            last
-        } else if min_exists {
-            self.join(Gate::Min, places, turned_lower, &by_min, [upper, lower], rest)
-        } else {
-            let last = self.split(places, lower, upper, turned_lower, rest);
-            lower.copy_from_slice(turned_lower);
-            last
+            return last;
         }
+        if min_exists {
+            let join = Join { gate: Gate::Min, lower: turned_lower, sides: by_min };
+            return self.join(places, &join, [upper, lower], rest);
+        }
+        let limits = Pair { lower, upper };
+        let weak = if may { first_weak(&limits, places, self.grades - 1) } else { None };
+        let last = match weak {
+            None => self.split(places, &limits, turned_upper, rest),
+            Some((condition, gate)) => {
+                let mut sides = by_max;
+                let of_max = gate == Gate::Max;
+                sides.weaken(if of_max { upper } else { turned_upper }, places, condition);
+                let join = Join { gate, lower: if of_max { lower } else { turned_lower }, sides };
+                self.fewer(places, &join, &limits, [by_min.over_t, by_min.over_s, turned_upper], rest)
+            }
+        };
+        lower.copy_from_slice(turned_upper);
+        last
     }
 
-    /// Joins, in exchanged grades for min. Of the two spare parts the second has the function afterwards.
-    fn join(
-        &mut self,
-        gate: Gate,
-        places: &Places,
-        lower: &[u8],
-        sides: &Sides,
-        spare: [&mut [u8]; 2],
-        rest: &mut [u8],
-    ) -> usize {
+    /// The weak join if it has fewer records than the split, else the split. Both are counted before one is written. Of
+    /// the three spare parts the last has the function afterwards.
+    fn fewer(&mut self, places: &Places, weak: &Join, limits: &Pair, spare: [&mut [u8]; 3], rest: &mut [u8]) -> usize {
+        let [reached, by_weak, function] = spare;
+        let mut counting = Compiling { grades: self.grades, records: Counted::default() };
+        let last_of_weak = counting.join(places, weak, [reached, by_weak], rest);
+        let of_weak = std::mem::take(&mut counting.records);
+        let last_of_split = counting.split(places, limits, function, rest);
+        let of_split = counting.records;
+        if of_split.count <= of_weak.count {
+            let taken = self.records.take(of_split);
+            return if taken { last_of_split } else { self.split(places, limits, function, rest) };
+        }
+        let taken = self.records.take(of_weak);
+        let last = if taken { last_of_weak } else { self.join(places, weak, [reached, by_weak], rest) };
+        function.copy_from_slice(by_weak);
+        last
+    }
+
+    /// Of the two spare parts the second has the function afterwards.
+    fn join(&mut self, places: &Places, join: &Join, spare: [&mut [u8]; 2], rest: &mut [u8]) -> usize {
+        let &Join { gate, lower, ref sides } = join;
         let [reached, first] = spare;
         reach(reached, lower, sides.over_s, places, sides.t);
         let left = self.block(gate, places, sides.t, reached, sides.over_t, rest);
@@ -153,7 +192,8 @@ impl<R: Records> Compiling<R> {
         self.records.gate(gate, left, right)
     }
 
-    /// A stage for a block that does not depend on the set, in the rest of the work buffer.
+    /// A stage for a block that does not depend on the set, in the rest of the work buffer. Where the set is empty it is
+    /// the first block of a weak join, which takes no weak join.
     fn block(&mut self, gate: Gate, places: &Places, blind: u8, lower: &[u8], upper: &[u8], rest: &mut [u8]) -> usize {
         let seen = places.without(blind);
         let most = self.grades - 1;
@@ -165,11 +205,11 @@ impl<R: Records> Compiling<R> {
             seen.carry(places, to_lower, |_, cell| most - upper[cell]);
             seen.carry(places, to_upper, |_, cell| most - lower[cell]);
         }
-        self.stage(seen, rest)
+        self.stage(seen, blind != 0, rest)
     }
 
     /// The lowest condition has nothing but ones below it, so its value k has the cells k, k + card, k + 2 × card ..
-    fn split(&mut self, places: &Places, lower: &[u8], upper: &[u8], function: &mut [u8], rest: &mut [u8]) -> usize {
+    fn split(&mut self, places: &Places, limits: &Pair, function: &mut [u8], rest: &mut [u8]) -> usize {
         let condition = places.present.trailing_zeros() as usize;
         let card = places.card(condition);
         let below = places.without(1 << condition);
@@ -180,9 +220,9 @@ impl<R: Records> Compiling<R> {
             grades[value] = self.grades - 1;
             let literal = self.records.literal(condition, &grades);
             let (to_lower, to_upper) = rest.split_at_mut(cells);
-            to_lower.iter_mut().zip(lower.chunks_exact(card)).for_each(|(to, line)| *to = line[value]);
-            to_upper.iter_mut().zip(upper.chunks_exact(card)).for_each(|(to, line)| *to = line[value]);
-            let stage = self.stage(below, rest);
+            to_lower.iter_mut().zip(limits.lower.chunks_exact(card)).for_each(|(to, line)| *to = line[value]);
+            to_upper.iter_mut().zip(limits.upper.chunks_exact(card)).for_each(|(to, line)| *to = line[value]);
+            let stage = self.stage(below, true, rest);
             function.chunks_exact_mut(card).zip(&*rest).for_each(|(line, grade)| line[value] = *grade);
             let least = self.records.gate(Gate::Min, literal, stage);
             total = Some(match total {

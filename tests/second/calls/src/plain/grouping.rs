@@ -1,6 +1,9 @@
-//! The sets that a stage joins: document 01, "Stages", step 3, for max. Each test stops at the first cell that refuses.
+//! The sets that a stage joins: document 01, "Stages", step 3, for max, and weak joins, where there are none. Each test
+//! stops at the first cell that decides it.
 
+use super::join::Pair;
 use super::shape::{Places, members, spread, steps};
+use crate::Gate;
 
 /// Sets S and T, and the parts that hold the least upper over T and over S.
 pub struct Sides<'a> {
@@ -47,6 +50,30 @@ fn may_add(lower: &[u8], changing: &[u8], kept: &[u8], places: &Places, conditio
     })
 }
 
+/// The gate by which the weak join at a condition counts, max before min: over the condition, the least upper reaches a
+/// lower grade that is not 0, or the greatest lower leaves an upper grade that is not the greatest grade, `most`.
+fn weak_at(limits: &Pair, places: &Places, most: u8, condition: usize) -> Option<Gate> {
+    let mut by_min = false;
+    for first in places.lines(condition) {
+        let cells = places.along(condition, first);
+        let (least, greatest) = cells.fold((u8::MAX, 0), |(least, greatest), cell| {
+            (limits.upper[cell].min(least), limits.lower[cell].max(greatest))
+        });
+        for cell in places.along(condition, first) {
+            if (1..=least).contains(&limits.lower[cell]) {
+                return Some(Gate::Max);
+            }
+            by_min |= (greatest..most).contains(&limits.upper[cell]);
+        }
+    }
+    by_min.then_some(Gate::Min)
+}
+
+/// The first weak join that counts.
+pub fn first_weak(limits: &Pair, places: &Places, most: u8) -> Option<(usize, Gate)> {
+    members(places.present).find_map(|condition| Some((condition, weak_at(limits, places, most, condition)?)))
+}
+
 impl Sides<'_> {
     /// Finds the grouping by max; false if there is none.
     pub fn find(&mut self, lower: &[u8], upper: &[u8], places: &Places) -> bool {
@@ -72,6 +99,14 @@ impl Sides<'_> {
             let _ = self.add(lower, places, condition, s_first) || self.add(lower, places, condition, !s_first);
         }
         true
+    }
+
+    /// Makes these the sides of the weak join at a condition: S has it alone, T has none.
+    pub fn weaken(&mut self, upper: &[u8], places: &Places, condition: usize) {
+        (self.s, self.t) = (1 << condition, 0);
+        self.over_t.copy_from_slice(upper);
+        self.over_s.copy_from_slice(upper);
+        spread(self.over_s, places, self.s, u8::min);
     }
 
     fn add(&mut self, lower: &[u8], places: &Places, condition: usize, to_s: bool) -> bool {

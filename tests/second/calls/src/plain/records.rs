@@ -1,4 +1,5 @@
-//! What becomes of a network's records: compiling writes them, a forecast counts them.
+//! What becomes of a network's records: compiling writes them; a forecast counts them, and so does a stage that has two
+//! ways to go on, before it takes the one with fewer.
 
 use crate::Gate;
 
@@ -9,6 +10,8 @@ pub trait Records {
     fn constant(&mut self, grade: u8) -> usize;
     fn literal(&mut self, condition: usize, grades: &[u8]) -> usize;
     fn gate(&mut self, gate: Gate, left: usize, right: usize) -> usize;
+    /// Adds records that were counted apart, where no more than a count is asked for. False: they have to be made here.
+    fn take(&mut self, counted: Counted) -> bool;
 }
 
 /// Writes them to a network; the number is a record's place there.
@@ -51,6 +54,10 @@ impl Records for Written<'_> {
             record[6..8].copy_from_slice(&(right as u16).to_le_bytes());
         })
     }
+
+    fn take(&mut self, _: Counted) -> bool {
+        false
+    }
 }
 
 /// Counts them; the number is a record's depth.
@@ -77,5 +84,10 @@ impl Records for Counted {
 
     fn gate(&mut self, _: Gate, left: usize, right: usize) -> usize {
         self.push(1 + left.max(right))
+    }
+
+    fn take(&mut self, counted: Counted) -> bool {
+        self.count += counted.count;
+        true
     }
 }
