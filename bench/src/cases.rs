@@ -2,7 +2,7 @@
 
 use crate::report::grouped;
 use calls::plain::Plain;
-use calls::tables::OwnedTable;
+use calls::tables::{OwnedTable, with_most_stages};
 use calls::{Calls, Gate, Limits, Sets, Table};
 
 /// Makes the call once and gives its answer.
@@ -101,7 +101,7 @@ pub fn drawn(number: u32) -> OwnedTable {
 
 fn network(table: &OwnedTable) -> Vec<u8> {
     let cells = table.cells();
-    let (mut work, mut network) = (vec![0; 16 * cells], vec![0; 16 * (3 * cells - 5)]);
+    let (mut work, mut network) = (vec![0; 32 * cells], vec![0; 16 * (3 * cells - 5)]);
     let records = Plain.compile(table.lent(), &mut work, &mut network);
     network.truncate(16 * records as usize);
     network
@@ -162,7 +162,7 @@ fn with_work(
 ) -> Box<dyn Fn() -> Call> {
     Box::new(move || {
         let table = table.clone();
-        let (mut work, mut written) = (vec![0; 16 * table.cells()], vec![0; bytes]);
+        let (mut work, mut written) = (vec![0; 32 * table.cells()], vec![0; bytes]);
         Box::new(move |calls| call(calls, table.lent(), &mut work, &mut written))
     })
 }
@@ -295,8 +295,10 @@ fn compiled() -> Vec<(String, Option<&'static str>, OwnedTable)> {
         ("8 2⁷, drawn table 307,581, m 16", drawn(307_581)),
         ("4 4 2⁶, drawn table 12,552, m 2", drawn(12_552)),
     ]
+    .into_iter()
+    .chain(with_most_stages())
     .map(|(name, table)| (name.to_string(), None, table))
-    .to_vec();
+    .collect::<Vec<_>>();
     let growing = [("2⁴", 4), ("2⁵", 5), ("2⁶", 6), ("2⁷", 7), ("2⁸", 8)].map(|(name, count)| (name, vec![2; count]));
     let largest = [("4 2⁷", 4), ("8 2⁷", 8)].map(|(name, first)| (name, [&[first], &LARGEST[1..]].concat()));
     for (name, cards) in growing.into_iter().chain(largest) {

@@ -5,8 +5,8 @@
 //!     bench against PROGRAM           prints each call's instructions with the library in another build, and in this one
 //!     bench search SECONDS            draws tables for so long, and prints those that take longest to compile
 //!
-//! Instructions are counted by callgrind, in two runs of which one makes twice as many calls: the difference is the
-//! calls' own, and is the same in every run.
+//! Instructions are counted by callgrind, in two runs of which one makes a call more: the difference is the call's own,
+//! and is the same in every run.
 
 mod cases;
 mod plot;
@@ -61,11 +61,10 @@ fn counted(program: &Path, name: &str, case: usize, times: u32) -> Option<u64> {
     line.rsplit(' ').next()?.parse().ok()
 }
 
-/// Instructions of one call.
+/// Instructions of one call: what a run that makes two calls has more than one that makes one.
 fn instructions(program: &Path, name: &str, case: usize) -> f64 {
-    const TIMES: u32 = 4;
     let counted = |times| counted(program, name, case, times).expect("callgrind counts the instructions of a run");
-    (counted(2 * TIMES) - counted(TIMES)) as f64 / TIMES as f64
+    (counted(2) - counted(1)) as f64
 }
 
 /// The least time of one call with each implementation, measured in turns. A turn makes the calls in batches that are

@@ -124,8 +124,10 @@ What a call costs in the proved library, and in plain safe Rust that answers the
 - Instructions are counted by callgrind, and are the same in every run with the same compilers.
 - Times are in microseconds, the least in one run, on a machine that does other work as well.
 {ratios}- A table is named by its cardinalities and what it holds: 8 2⁷ is a condition of eight values and seven of two, 1,024 cells.
-  m is the number of grades. A parity table splits at every stage. The drawn tables are among the slowest, each of its
-  shape, of some 540,000 that `bench/run search 60` drew and timed.
+  m is the number of grades. A parity table splits at every stage, and builds no weak join. The tables that are named by
+  their stages have more of them than any other that was found: where no two sets join, a stage builds a weak join beside
+  its split. The drawn tables were among the slowest, each of its shape, of some 540,000 that `bench/run search 60` drew
+  and timed when there were splits alone.
 - A row of a join that names sets has the sizes of S and of T. Of 1, S is condition 0, which has the eight values, and T is
   condition 7; a set of 7 is all the others. Sets of 3 are 0 1 2 and 5 6 7, adjoining, or 1 3 5 and 2 4 6, alternating. The
   table, m 16, is the max, or the min where the row says so, of a random function blind to T and of one blind to S.
