@@ -22,7 +22,6 @@ use Rattle.laws.proofs.TreeLaws.{computed-at, made-below}
 use Rattle.laws.proofs.StageLaws.{Ready, network-ok, first-ready, second-of}
 use Rattle.laws.proofs.FunctionLaws.{first-moved, joined}
 use Rattle.tables.specs.Part.{part, stageAt}
-use Rattle.tables.proofs.PartLaws.{part-at}
 use Rattle.join_tables.specs.Parts.{Below}
 use Rattle.stage_drops.specs.Working.{ForSecond}
 use Rattle.stage_blocks.specs.Blocks.{stageOf, Standing, FirstRoom, FirstLaid, SecondRoom, SecondLaid, JoinedRoom}
@@ -33,17 +32,14 @@ use Rattle.stage_steps.specs.Extents.{GateRoom}
 use Rattle.stage_steps.specs.Ends.{Closed}
 use Rattle.stage_steps.proofs.ExtentLaws.{gate-room, tree-gate}
 use Rattle.stage_steps.proofs.WantLaws.{wanted-both, wanted-length}
-use Rattle.stages.specs.Staging.{Starts, Written, Behind, Smaller, Joins}
+use Rattle.weak_joins.proofs.OpenLaws.{part-below}
+use Rattle.stages.specs.Staging.{Starts, Written, Behind, Joins}
 use Rattle.stages.proofs.LentLaws.{rest, Back, back-front}
 use Rattle.stages.proofs.ChildLaws.{proper-ready, written-as, smaller-behind, stageRank, joinRank, rank-fewer, Lent, behind, child-stage, child-starts, child-back, child-function}
 
--- a block's masks are not known
-unknown : {P : Type 0} → false ≡ true → P
+-- whatever is asked where a flag is set, of one that is not: a block's masks are not known
+pub unknown : {P : Type 0} → false ≡ true → P
 unknown e = absurd (subst T (sym e) tt)
-
-part-below : {w : List ℕ} {a n m : ℕ} (t : List ℕ) → part w a n ≡ t → ((c : ℕ) → c < n → at t c ≤ m - 1) → Below w a n m
-part-below {w} {a} {n} {m} t e h =
-    record { grade = λ c lt. subst (λ (x : ℕ). x ≤ m - 1) (ap (λ (f : List ℕ). at f c) (sym e) ∙ part-at w a n c lt) (h c lt) }
 
 -- part 0, and parts 4 and 5, while a stage works behind the parts
 standing-back : {c : ℕ} {w v w′ : List ℕ} → Back (8 * c) w v w′ → 8 * c ≤ length w → Standing c w w′

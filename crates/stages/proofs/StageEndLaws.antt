@@ -27,7 +27,7 @@ use Rattle.masks.specs.Masks.{Known}
 use Rattle.grouping.specs.declared.Sets.{Sets}
 use Rattle.stage_choice.specs.declared.Choice.{Choice}
 use Rattle.stage_choice.specs.declared.Choice.the-variants.{Leaf, Split, Join}
-use Rattle.stage_drops.specs.Working.{Room, frontStage, Proper, ForBoth}
+use Rattle.stage_drops.specs.Working.{Room, frontStage, Proper}
 use Rattle.stage_drops.proofs.DropLaws.{as-shaped}
 use Rattle.stage_plan.specs.declared.Plan.{Plan}
 use Rattle.stage_plan.specs.Planning.{Leaves, Splitting, Joining, Finds, Planned}

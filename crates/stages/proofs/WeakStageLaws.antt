@@ -5,11 +5,11 @@ use mathlib.Core.Bool.{Bool, true, false, cond}
 use mathlib.Core.List.{List}
 use native.Mathlib.Omega.{arith}
 use borrow.Author.Tests.{lt-ltb, le-ltb}
-use lib.Dec.{T, ltb}
+use lib.Dec.{T}
 use lib.ListN.{length}
 use Rattle.rules.specs.declared.Gate.{Gate}
 use Rattle.rules.specs.Bytes.{at}
-use Rattle.rules.specs.Cell.{cells, present, width, singleton, without}
+use Rattle.rules.specs.Cell.{cells, present, width, singleton}
 use Rattle.rules.specs.Tree.{Tree, size, records}
 use Rattle.rules.specs.Stage.{Stage, Weak, nowhere, weakly, tried, splitTree, weakTree, fewest, treeOf}
 use Rattle.laws.proofs.TestLaws.{by-order}
@@ -33,8 +33,9 @@ use Rattle.weak_joins.specs.declared.Weak as searched
 use Rattle.weak_joins.specs.Trying.{weakOf}
 use Rattle.weak_joins.specs.Opening.{Turned, Opened, Reopened, CanRestore, Restored}
 use Rattle.weak_joins.specs.Keeping.{Kept}
-use Rattle.stages.specs.Staging.{Written, Numbered, Left, Joins, Joined, Undivided, Splits, Divided, Tries, Counted, Divides}
+use Rattle.stages.specs.Staging.{Written, Numbered, Left, Joins, Joined, Splits, Divided, Tries, Counted, Divides}
 use Rattle.stages.proofs.ChildLaws.{proper-ready, smaller, divideRank}
+use Rattle.stages.proofs.BlockStageLaws.{unknown}
 use Rattle.stages.proofs.SplitStageLaws.{collected}
 
 -- a part of what two buffers have in common
@@ -103,8 +104,8 @@ module _ {m : ℕ} {ks : List ℕ} {i c : ℕ} {w₀ : List ℕ} (h : Tries m ks
       record {
         left = left-at e;
         exists = weak-joins m gate (singleton i) x ready;
-        first-room = record { work = omega arith; more = λ f. absurd (subst T (sym f) tt) };
-        first-fewer = λ f. absurd (subst T (sym f) tt);
+        first-room = record { work = omega arith; more = unknown };
+        first-fewer = unknown;
         second = smaller ks (singleton i) (ready .pos) (i, has-same 0 i) (λ k g. subst (λ (z : ℕ). T (present ks z)) (sym (singleton-has i k g)) (h .there));
         tables = t;
         numbers = n;

@@ -36,8 +36,9 @@ room-same e room = let r = room .room in record { shaped = room .shaped; own = r
 pub proper-good : {ks : List ℕ} {m : ℕ} {l : Limits} → Proper m (stageOf ks l) → Good ks m l
 proper-good h = record { room = h .ordered; top = h .top }
 
-below-of : {w t : List ℕ} {a n m : ℕ} → part w a n ≡ t → ((c : ℕ) → c < n → at t c ≤ m - 1) → Below w a n m
-below-of {w} {t} {a} {n} {m} e h =
+-- grades of a table are grades of the part that holds it
+pub part-below : {w : List ℕ} {a n m : ℕ} (t : List ℕ) → part w a n ≡ t → ((c : ℕ) → c < n → at t c ≤ m - 1) → Below w a n m
+part-below {w} {a} {n} {m} t e h =
     record { grade = λ c l. subst (λ (g : ℕ). g ≤ m - 1) (ap (λ (u : List ℕ). at u c) (sym e) ∙ part-at w a n c l) (h c l) }
 
 pub turnable : {w ks : List ℕ} {m n : ℕ} (l : Limits) (from to : ℕ) → n ≡ cells ks → 1 ≤ m → n ≤ from → n ≤ to → Two w from to n → Good ks m l → Limited l from n w
@@ -48,8 +49,8 @@ turnable {ks = ks} l from to own some source target two good here =
       parts = two;
       source = source;
       target = target;
-      lows = below-of (here .lows) (λ c h. let q : c < cells ks = omega arith in le-trans (good .room c q) (good .top c q));
-      highs = below-of (here .highs) (λ c h. good .top c (omega arith));
+      lows = part-below (l .lower) (here .lows) (λ c h. let q : c < cells ks = omega arith in le-trans (good .room c q) (good .top c q));
+      highs = part-below (l .upper) (here .highs) (λ c h. good .top c (omega arith));
     }
 
 -- turned
