@@ -6,9 +6,10 @@ use mathlib.Core.List.{List, [], _∷_, _++_, append-assoc}
 use native.Mathlib.Nat.{add-zero, zero-add, mul-suc, mod-add-div, not-suc-le-zero, le-of-suc-le-suc, mul-div-right, mul-mod-right}
 use native.Mathlib.Omega.{arith}
 use lib.Dec.{T, not-T, eqb, leb, ltb, ltb→lt, lt→ltb, nltb→le, le→leb}
-use lib.ListN.{length, replicate, take, drop, length-append, length-take, getD-replicate, List·getD-append}
-use lib.Seq.{take-at, drop-append-add, getD-append-add, getD-take}
+use lib.ListN.{length, replicate, take, length-append, length-take, getD-replicate, List·getD-append}
+use lib.Seq.{getD-append-add, getD-take}
 use Rattle.laws.proofs.TestLaws.{and-i, cond-ok}
+use Rattle.laws.proofs.RecordLaws.{record-first, record-later}
 use Rattle.laws.proofs.TableLaws.{all-of, tabulate-self}
 use Rattle.laws.proofs.TreeLaws.{RecordOk, RecordsOk}
 use Rattle.rules.specs.declared.Gate.the-variants.{Min, Max}
@@ -78,26 +79,18 @@ networkBytes-append [] ys = refl
 networkBytes-append (x ∷ xs) ys =
     ap (λ (b : List ℕ). recordBytes x ++ b) (networkBytes-append xs ys) ∙ sym (append-assoc (recordBytes x) (networkBytes xs) (networkBytes ys))
 
-pub recordAt-first : (a net : List ℕ) → length a ≡ 16 → recordAt (a ++ net) 0 ≡ a
-recordAt-first a net e = take-at a net 16 e
-
-pub recordAt-later : (a net : List ℕ) (k : ℕ) → length a ≡ 16 → recordAt (a ++ net) (suc k) ≡ recordAt net k
-recordAt-later a net k e =
-    let p : 16 * suc k ≡ length a + 16 * k = omega (arith, mul-suc 16 k) in
-    ap (take 16) (ap (λ (n : ℕ). drop n (a ++ net)) p ∙ drop-append-add a net (16 * k))
-
 module _ (ks : List ℕ) where
   from-later : (a net : List ℕ) (k n : ℕ) → length a ≡ 16 → recordsFrom ks (a ++ net) (suc k) n ≡ recordsFrom ks net k n
   from-later a net k zero e = refl
   from-later a net k (suc n) e =
-      ap₂ (λ (x : Record) (l : List Record). x ∷ l) (ap (recordOf ks) (recordAt-later a net k e)) (from-later a net (suc k) n e)
+      ap₂ (λ (x : Record) (l : List Record). x ∷ l) (ap (recordOf ks) (record-later a net k e)) (from-later a net (suc k) n e)
 
   module _ (few : (i : ℕ) → card ks i ≤ 8) (m : ℕ) where
     from-bytes : (k : ℕ) (rs : List Record) → RecordsOk ks m k rs → recordsFrom ks (networkBytes rs) 0 (length rs) ≡ rs
     from-bytes k [] h = refl
     from-bytes k (r ∷ rs) h =
         ap₂ (λ (x : Record) (l : List Record). x ∷ l)
-        (ap (recordOf ks) (recordAt-first (recordBytes r) (networkBytes rs) (length-recordBytes r)) ∙ recordOf-bytes ks few m k r (h .0))
+        (ap (recordOf ks) (record-first (recordBytes r) (networkBytes rs) (length-recordBytes r)) ∙ recordOf-bytes ks few m k r (h .0))
         (from-later (recordBytes r) (networkBytes rs) 0 (length rs) (length-recordBytes r) ∙ from-bytes (suc k) rs (h .1))
 
     count-bytes : (rs : List Record) → length (networkBytes rs) / 16 ≡ length rs
@@ -110,10 +103,10 @@ module _ (ks : List ℕ) where
     sound-bytes : (k : ℕ) (rs : List Record) → RecordsOk ks m k rs → (j : ℕ) → j < length rs → T (recordSound ks m (k + j) (recordAt (networkBytes rs) j))
     sound-bytes k [] h j l = absurd (not-suc-le-zero l)
     sound-bytes k (r ∷ rs) h zero l =
-        rw (recordAt-first (recordBytes r) (networkBytes rs) (length-recordBytes r), add-zero k) (recordSound-bytes ks few m k r (h .0))
+        rw (record-first (recordBytes r) (networkBytes rs) (length-recordBytes r), add-zero k) (recordSound-bytes ks few m k r (h .0))
     sound-bytes k (r ∷ rs) h (suc j) l =
         let e : suc k + j ≡ k + suc j = omega arith in
-        rw (recordAt-later (recordBytes r) (networkBytes rs) j (length-recordBytes r))
+        rw (record-later (recordBytes r) (networkBytes rs) j (length-recordBytes r))
         (subst (λ (n : ℕ). T (recordSound ks m n (recordAt (networkBytes rs) j))) e (sound-bytes (suc k) rs (h .1) j (le-of-suc-le-suc l)))
 
     -- and none of them is faulty

@@ -11,6 +11,7 @@ pub mod DepthLaws
 pub mod FuelLaws
 pub mod FunctionLaws
 pub mod GateLaws
+pub mod GradeSetLaws
 pub mod GroupLaws
 pub mod JoinExactLaws
 pub mod JoinLaws

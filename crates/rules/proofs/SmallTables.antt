@@ -5,6 +5,7 @@ use Rattle.rules.specs.Small.{Small}
 use Rattle.rules.specs.SmallListings.{SmallListings}
 use Rattle.rules.specs.SmallVisits.{Visits}
 use Rattle.rules.specs.SmallWeak.{WeakJoins}
+use Rattle.rules.specs.SmallEditions.{Conversions}
 
 pub small-tables : Small
 small-tables =
@@ -23,3 +24,7 @@ visits = (refl, refl, refl, refl, refl, refl, refl, refl, refl, refl, refl, refl
 
 pub weak-joins : WeakJoins
 weak-joins = (refl, refl, refl, refl, refl, refl, refl, refl, refl)
+
+pub conversions : Conversions
+conversions =
+    (refl, refl, refl, refl, refl, refl, refl, refl, refl, refl, refl, refl, refl, refl, refl, refl, refl, refl, refl, refl, refl, refl, refl, refl, refl, refl, refl, refl, refl)

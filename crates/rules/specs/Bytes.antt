@@ -2,7 +2,7 @@
 use Prim.Native.Nat.{ℕ, zero, suc, _+_, _-_, _*_}
 use mathlib.Core.Path.{_≡_}
 use mathlib.Core.Bool.{Bool, true, false, not, _&&_}
-use mathlib.Core.List.{List, [], _∷_}
+use mathlib.Core.List.{List, [], _∷_, _++_}
 use lib.Dec.{eqb}
 use lib.ListN.{length, getD, take, drop}
 
@@ -41,6 +41,11 @@ numbersFrom i (suc n) = i ∷ numbersFrom (suc i) n
 -- record k of a file: its sixteen bytes
 abbrev pub recordAt : List ℕ → ℕ → List ℕ
 recordAt file k = take 16 (drop (16 * k) file)
+
+-- n records of a file from record k on, each changed
+abbrev pub mapRecords : (List ℕ → List ℕ) → List ℕ → ℕ → ℕ → List ℕ
+mapRecords f file k zero = []
+mapRecords f file k (suc n) = f (recordAt file k) ++ mapRecords f file (suc k) n
 
 -- the bytes from a up to, but not with, b are zero
 abbrev pub zeros : List ℕ → ℕ → ℕ → Bool

@@ -7,7 +7,9 @@ pub mod Bytes
 pub mod Cell
 pub mod Shape
 pub mod Limits
+pub mod GradeSet
 pub mod TableFile
+pub mod Editions
 pub mod Join
 pub mod Network
 pub mod NetworkCalls
@@ -23,3 +25,4 @@ pub mod SmallWeak
 pub mod SmallVisits
 pub mod Listing
 pub mod SmallListings
+pub mod SmallEditions

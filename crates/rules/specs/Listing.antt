@@ -1,4 +1,4 @@
--- 01, the program "grades": what it prints, byte for byte.
+-- 01, the program "grades": what it prints, byte for byte. Request 6: what the programs that convert files write.
 use Prim.Native.Nat.{ℕ, zero, suc, _+_, _/_, _%_}
 use Prim.Native.Char.{code}
 use Prim.Native.String.{String, len, charAt}
@@ -6,6 +6,8 @@ use mathlib.Core.Bool.{cond}
 use mathlib.Core.List.{List, [], _∷_, _++_}
 use lib.Dec.{ltb}
 use lib.ListN.{length}
+use Rattle.rules.specs.declared.Edition.{Edition}
+use Rattle.rules.specs.declared.Edition.the-variants.{Ours}
 use Rattle.rules.specs.declared.Gate.{Gate}
 use Rattle.rules.specs.declared.Gate.the-variants.{Min, Max}
 use Rattle.rules.specs.declared.Refusal.{Refusal}
@@ -13,6 +15,7 @@ use Rattle.rules.specs.Refusal.{refusalNumber}
 use Rattle.rules.specs.Shape.{places}
 use Rattle.rules.specs.Verdict.{Verdict, accepted, refused, andThen}
 use Rattle.rules.specs.TableFile.{judgeFile, fileLimits}
+use Rattle.rules.specs.Editions.{convertCall}
 use Rattle.rules.specs.Network.{Record, constant, literal, gate}
 use Rattle.rules.specs.Demands.{compiledRecords}
 
@@ -81,8 +84,21 @@ printed (refused q) = refusalLine q
 
 -- a table file: the refusal of the first row that it breaks, or the records of its table's network
 abbrev pub fileNetwork : List ℕ → Verdict (List Record)
-fileNetwork file = andThen (judgeFile file) (λ s. accepted (compiledRecords (places (s .cards)) (s .m) (fileLimits file s)))
+fileNetwork file = andThen (judgeFile Ours file) (λ s. accepted (compiledRecords (places (s .cards)) (s .m) (fileLimits file s)))
 
 -- what the program prints for it
 abbrev pub answerTo : List ℕ → List ℕ
 answerTo file = printed (fileNetwork file)
+
+-- Request 6: what the two programs that turn a file into the other edition write. The file comes on standard output; a refusal is a line on
+-- standard error, and nothing is on standard output
+pub record Said : Type 0 where
+  pub output : List ℕ
+  pub error : List ℕ
+
+abbrev pub said : Verdict (List ℕ) → Said
+said (accepted turned) = record { output = turned; error = [] }
+said (refused q) = record { output = []; error = refusalLine q }
+
+abbrev pub turnedFrom : Edition → List ℕ → Said
+turnedFrom e file = said (convertCall e file (length file))

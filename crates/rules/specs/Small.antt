@@ -6,6 +6,7 @@ use mathlib.Core.List.{List, [], _∷_, _++_}
 use lib.ListN.{length, replicate}
 use Rattle.rules.specs.declared.Gate.{Gate}
 use Rattle.rules.specs.declared.Gate.the-variants.{Min, Max}
+use Rattle.rules.specs.declared.Edition.the-variants.{Ours}
 use Rattle.rules.specs.Bytes.{tabulate}
 use Rattle.rules.specs.Verdict.{Verdict, accepted, verdictNumber}
 use Rattle.rules.specs.Shape.{places, shapeSound}
@@ -97,7 +98,7 @@ seenSome = record { n = 2; cards = cardBytes two; m = 4; next = 3 }
 
 -- the refusal of a file; 0 if none
 abbrev pub fileNumber : List ℕ → ℕ
-fileNumber file = verdictNumber (judgeFile file)
+fileNumber file = verdictNumber (judgeFile Ours file)
 
 -- the bytes of E's network
 abbrev pub netE : List ℕ
@@ -186,11 +187,11 @@ Small =
     × (compileE (0 ∷ 1 ∷ 1 ∷ 1 ∷ []) 128 112 ≡ 5)
     × (verdictNumber (compileCall 4 (cardBytes (8 ∷ 8 ∷ 8 ∷ 3 ∷ [])) 2 0 0 0 0 (limits [] [])) ≡ 4)
     -- reading: E's file, and one for each refusal, the order of rows 2, 3, 6, 5 among them
-    × (judgeFile fileE ≡ accepted seenE)
+    × (judgeFile Ours fileE ≡ accepted seenE)
     × (fileLimits fileE seenE ≡ limits E E)
     -- a cell that is not listed: 1 to m − 1, of two grades 1 alone; a listed one as it is listed, 0 to 0 and 0 to m − 1 among them
     × (fileLimits headE seenE ≡ limits (replicate 4 1) (replicate 4 1))
-    × (judgeFile fileSome ≡ accepted seenSome)
+    × (judgeFile Ours fileSome ≡ accepted seenSome)
     × (fileLimits fileSome seenSome ≡ limits (1 ∷ 0 ∷ 0 ∷ 1 ∷ []) (3 ∷ 0 ∷ 3 ∷ 3 ∷ []))
     × (fileNumber (headE ++ 0 ∷ []) ≡ 1)
     × (fileNumber (headE ++ fileRecord (4 ∷ [])) ≡ 2)

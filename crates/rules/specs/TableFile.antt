@@ -1,15 +1,20 @@
 -- 01, Tables and cells: table files. Records are judged one after the other, each by all of its rows of "Places where a call stops".
+-- Request 6: files come in two editions, which differ in their cell records alone.
 use Prim.Native.Nat.{ℕ, zero, suc, _+_, _-_, _*_, _/_, _%_, _<_}
 use mathlib.Core.Path.{_≡_}
-use mathlib.Core.Bool.{not, cond, _&&_}
+use mathlib.Core.Bool.{Bool, not, cond, _&&_}
 use mathlib.Core.List.{List}
 use lib.Dec.{leb, ltb, eqb}
 use lib.ListN.{length, replicate, set}
-use Rattle.rules.specs.declared.Refusal.the-variants.{FileLength, RecordBytes, RecordOrder, ShapeRange, GradeLimits, CellValues, ShortBuffer}
-use Rattle.rules.specs.Bytes.{at, all, recordAt, zeros}
+use Rattle.rules.specs.declared.Edition.{Edition}
+use Rattle.rules.specs.declared.Edition.the-variants.{Ours, Spreadsheet}
+use Rattle.rules.specs.declared.Refusal.{Refusal}
+use Rattle.rules.specs.declared.Refusal.the-variants.{FileLength, RecordBytes, RecordOrder, ShapeRange, GradeLimits, CellValues, ShortBuffer, GradeSet}
+use Rattle.rules.specs.Bytes.{at, all, recordAt, zeros, word}
 use Rattle.rules.specs.Cell.{cells, card, number}
 use Rattle.rules.specs.Shape.{maxConditions, maxCardinality, maxGrades, maxCells, places}
 use Rattle.rules.specs.Limits.{Limits}
+use Rattle.rules.specs.GradeSet.{setSound}
 use Rattle.rules.specs.Verdict.{Verdict, accepted, refused, unless, andThen}
 
 -- what the records so far say: n conditions with their cardinalities by place, 0 elsewhere; m grades, 0 before the grades record;
@@ -43,42 +48,67 @@ gradesRecord s r =
 abbrev pub listedCell : List ℕ → List ℕ → ℕ
 listedCell ks r = number ks (λ i. at r (8 + i))
 
--- kind 3, a cell: after the grades record, its values below the cardinalities, its number above those before, its limits in order and below m
-abbrev pub cellRecord : Seen → List ℕ → Verdict Seen
-cellRecord s r =
-    unless (zeros r 3 8 && zeros r (8 + s .n) 16) RecordBytes
+-- what each edition has of its own. The kind of a cell record
+abbrev pub cellKind : Edition → ℕ
+cellKind Ours = 3
+cellKind Spreadsheet = 4
+
+-- which of bytes 1 to 3 has no meaning: the limits stand in bytes 1 and 2, a set in bytes 2 and 3
+abbrev pub spareByte : Edition → ℕ
+spareByte Ours = 3
+spareByte Spreadsheet = 1
+
+-- what is asked of a cell's grades: limits in order and below m, or a set that is not empty, has no gap, and holds grades below m
+abbrev pub cellSound : Edition → ℕ → List ℕ → Bool
+cellSound Ours m r = leb (at r 1) (at r 2) && ltb (at r 2) m
+cellSound Spreadsheet m r = setSound m (word r 2)
+
+-- and the row for that
+abbrev pub cellRefusal : Edition → Refusal
+cellRefusal Ours = GradeLimits
+cellRefusal Spreadsheet = GradeSet
+
+-- the bytes before the values that must be zero
+abbrev pub cellClear : Edition → List ℕ → Bool
+cellClear e r = eqb (at r (spareByte e)) 0 && zeros r 4 8
+
+-- a cell: after the grades record, its values below the cardinalities, its number above those before, its grades as the edition asks
+abbrev pub cellRecord : Edition → Seen → List ℕ → Verdict Seen
+cellRecord e s r =
+    unless (cellClear e r && zeros r (8 + s .n) 16) RecordBytes
     (unless (not (eqb (s .m) 0)) RecordOrder
     (unless (all 8 (λ i. ltb (at r (8 + i)) (card (places (s .cards)) i)) && leb (s .next) (listedCell (places (s .cards)) r)) CellValues
-    (unless (leb (at r 1) (at r 2) && ltb (at r 2) (s .m)) GradeLimits
+    (unless (cellSound e (s .m) r) (cellRefusal e)
     (accepted (record { n = s .n; cards = s .cards; m = s .m; next = listedCell (places (s .cards)) r + 1 })))))
 
-abbrev pub tableRecord : Seen → List ℕ → Verdict Seen
-tableRecord s r =
+-- a record by its kind; the cell kind of the other edition is as unknown as any
+abbrev pub tableRecord : Edition → Seen → List ℕ → Verdict Seen
+tableRecord e s r =
     cond (eqb (at r 0) 1) (conditionRecord s r)
     (cond (eqb (at r 0) 2) (gradesRecord s r)
-    (cond (eqb (at r 0) 3) (cellRecord s r)
+    (cond (eqb (at r 0) (cellKind e)) (cellRecord e s r)
     (refused RecordBytes)))
 
 -- n records from record k on; after the last one there has been a grades record
-abbrev pub tableRecords : List ℕ → ℕ → ℕ → Seen → Verdict Seen
-tableRecords file k zero s = unless (not (eqb (s .m) 0)) RecordOrder (accepted s)
-tableRecords file k (suc n) s = andThen (tableRecord s (recordAt file k)) (tableRecords file (suc k) n)
+abbrev pub tableRecords : Edition → List ℕ → ℕ → ℕ → Seen → Verdict Seen
+tableRecords e file k zero s = unless (not (eqb (s .m) 0)) RecordOrder (accepted s)
+tableRecords e file k (suc n) s = andThen (tableRecord e s (recordAt file k)) (tableRecords e file (suc k) n)
 
 -- one record for each cell, each condition and the grades, at most
 abbrev pub maxFileLength : ℕ
 maxFileLength = 16528
 
-abbrev pub judgeFile : List ℕ → Verdict Seen
-judgeFile file =
+abbrev pub judgeFile : Edition → List ℕ → Verdict Seen
+judgeFile e file =
     unless (ltb 0 (length file) && (eqb (length file % 16) 0 && leb (length file) maxFileLength)) FileLength
-    (tableRecords file 0 (length file / 16) start)
+    (tableRecords e file 0 (length file / 16) start)
 
--- the whole verdict, for limit buffers of the given lengths
+-- the whole verdict on a file of ours, for limit buffers of the given lengths
 abbrev pub judgeReading : List ℕ → ℕ → ℕ → Verdict Seen
 judgeReading file lower upper =
-    andThen (judgeFile file) (λ s. unless (leb (cells (places (s .cards))) lower && leb (cells (places (s .cards))) upper) ShortBuffer (accepted s))
+    andThen (judgeFile Ours file) (λ s. unless (leb (cells (places (s .cards))) lower && leb (cells (places (s .cards))) upper) ShortBuffer (accepted s))
 
--- the table t after one record: a cell record lays its byte at place j over the cell that it names
+-- the table t after one record: a cell record, of ours, lays its byte at place j over the cell that it names
 abbrev pub laidOver : List ℕ → List ℕ → ℕ → List ℕ → List ℕ
 laidOver r ks j t = cond (eqb (at r 0) 3) (set t (listedCell ks r) (at r j)) t
 

@@ -3,6 +3,8 @@ use Prim.Native.Nat.{ℕ}
 use mathlib.Core.Bool.{Bool, true, false, _&&_}
 use mathlib.Core.List.{List, [], _∷_}
 use lib.Dec.{leb}
+use Rattle.rules.specs.declared.Outcome.{Outcome}
+use Rattle.rules.specs.declared.Outcome.the-variants as outcomes
 use Rattle.rules.specs.declared.Refusal.{Refusal}
 use Rattle.rules.specs.Refusal.{refusalNumber}
 
@@ -41,6 +43,15 @@ denied q = record { number = refusalNumber q; values = [] }
 abbrev pub answerOf : {A : Type 0} → (A → List ℕ) → Verdict A → Answer
 answerOf values (accepted a) = granted (values a)
 answerOf values (refused q) = denied q
+
+-- of a call whose result is in lent buffers
+abbrev pub outcomeOf : {A : Type 0} → Verdict A → Outcome
+outcomeOf (accepted a) = outcomes.Written
+outcomeOf (refused q) = outcomes.Refused q
+
+abbrev pub outcomeMeans : Outcome → Answer
+outcomeMeans outcomes.Written = granted []
+outcomeMeans (outcomes.Refused q) = denied q
 
 -- row 10: every lent buffer, by its length, holds n bytes
 abbrev pub roomy : ℕ → List ℕ → Bool

@@ -5,6 +5,9 @@ pub const GRADES: u8 = 2;
 
 pub const CELL: u8 = 3;
 
+// A cell in the spreadsheet's edition, with a set of grades.
+pub const CELL_SET: u8 = 4;
+
 // In a network:
 pub const CONSTANT: u8 = 0;
 

@@ -19,7 +19,20 @@ pub enum Gate {
     Max,
 }
 
-// 01, Places where a call stops: a case for each row. specs/Refusal.antt gives each its number.
+// Request 6: whose table file it is. Ours has a lower and an upper grade for each cell that it lists,
+// the spreadsheet's a set of grades.
+pub enum Edition {
+    Ours,
+    Spreadsheet,
+}
+
+// What a call answers whose result is in buffers that it was lent.
+pub enum Outcome {
+    Written,
+    Refused(Refusal),
+}
+
+// 01, Places where a call stops, and the requests after it: a case for each row. specs/Refusal.antt gives each its number.
 pub enum Refusal {
     // The table file's length.
     FileLength,
@@ -45,6 +58,8 @@ pub enum Refusal {
     Network,
     // A cell number that the table does not have.
     CellNumber,
+    // A cell's set that no two limits say: with no grade, with one missing in between, or not below m.
+    GradeSet,
 }
 
 impl Refusal {
@@ -64,6 +79,7 @@ impl Refusal {
             Refusal::ShortBuffer => 10,
             Refusal::Network => 11,
             Refusal::CellNumber => 12,
+            Refusal::GradeSet => 13,
         }
     }
 }
