@@ -8,11 +8,13 @@ use native.Mathlib.Omega.{arith}
 use lib.ListN.{length, drop, List·getD-append}
 use Rattle.rules.specs.declared.Gate.{Gate}
 use Rattle.rules.specs.declared.Gate.the-variants.{Min, Max}
+use Rattle.rules.specs.declared.Outcome.{Outcome}
+use Rattle.rules.specs.declared.Outcome.the-variants.{Written, Refused}
 use Rattle.rules.specs.declared.Refusal.{Refusal}
 use Rattle.rules.specs.declared.Refusal.the-variants.{NoJoin, FirstBlock}
 use Rattle.rules.specs.Bytes.{at}
 use Rattle.rules.specs.Cell.{Blind, cells}
-use Rattle.rules.specs.Verdict.{Verdict, accepted, refused, unless, answerOf}
+use Rattle.rules.specs.Verdict.{Verdict, accepted, refused, unless, answerOf, outcomeOf}
 use Rattle.rules.specs.Limits.{Limits, limitsOf}
 use Rattle.rules.specs.Join.{exchangeFor, joinExists, firstLimits, secondLimits, blockSound, joinRows}
 use Rattle.rules.specs.Demands.{Table, Grades, Inside, Pair}
@@ -20,15 +22,14 @@ use Rattle.laws.proofs.TableLaws.{length-tabulateFrom}
 use Rattle.laws.proofs.GateLaws.{first-good}
 use Rattle.laws.proofs.JoinExactLaws.{join-exact}
 use Rattle.laws.proofs.TestLaws.{passes}
+use Rattle.laws.proofs.VerdictLaws.{outcome-means, written-refused, refused-written}
 use Rattle.shape.specs.declared.Shape.{Shape}
 use Rattle.shape.specs.Shapes.{cardsOf, placesOf}
 use Rattle.join_tables.specs.Parts.{Placed, First}
 use Rattle.join_tables.proofs.BlindLaws.{block-blind, block-inside}
-use Rattle.join.specs.declared.JoinAnswer.{JoinAnswer}
-use Rattle.join.specs.declared.JoinAnswer.the-variants as answers
-use Rattle.join.specs.Calls.{joinAnswer, lowerAfter, upperAfter, Offered, firstVerdict, JoinFirst, secondVerdict, JoinSecond, joinMeans}
+use Rattle.join.specs.Calls.{lowerAfter, upperAfter, Offered, firstVerdict, JoinFirst, secondVerdict, JoinSecond}
 use Rattle.join.specs.Steps.{Judgement, Opens, Completes, Delivered}
-use Rattle.join.proofs.RowLaws.{limits-refused, refused-limits, shortestOf, stopped, refused-eight}
+use Rattle.join.proofs.RowLaws.{shortestOf, stopped, refused-eight}
 use Rattle.join.proofs.CallLaws.{table, Call, size, exists, rows-by, row-nine}
 
 -- limits with a grade for each of n cells: those of both blocks
@@ -60,10 +61,6 @@ front ks l sized low high {x} {y} ex ey f = (
       ap (λ (z : List ℕ). at z c) ey ∙ List·getD-append (l .upper) (drop (cells ks) high) 0 c (omega arith),
     )
 
-join-means : (v : Verdict Limits) → joinMeans (joinAnswer v) ≡ answerOf (λ l. []) v
-join-means (accepted l) = refl
-join-means (refused q) = refl
-
 -- limits that left a work buffer
 written : (ks : List ℕ) {n : ℕ} → n ≡ cells ks → {w : List ℕ} (l : Limits) → Sized (cells ks) l → Placed w (4 * n) l n → {low high low′ high′ : List ℕ} → Delivered n w low high low′ high′
     → (low′ ≡ l .lower ++ drop (cells ks) low) × (high′ ≡ l .upper ++ drop (cells ks) high)
@@ -76,8 +73,8 @@ written ks e l sized p {low} {high} d = (
 unless-is : {a b : Bool} → a ≡ b → (l : Limits) → unless a FirstBlock (accepted l) ≡ unless b FirstBlock (accepted l)
 unless-is e l = ap (λ (x : Bool). unless x FirstBlock (accepted l)) e
 
-not-eight : (b : Bool) (l : Limits) → joinAnswer (unless b FirstBlock (accepted l)) ≡ answers.Refused NoJoin → ⊥
-not-eight true l h = limits-refused h
+not-eight : (b : Bool) (l : Limits) → outcomeOf (unless b FirstBlock (accepted l)) ≡ Refused NoJoin → ⊥
+not-eight true l h = written-refused h
 not-eight false l h = let z : _≡_ {A = ℕ} 0 1 = cc in omega arith
 
 module _ (shape : Shape) (l : Limits) (gate : Gate) (s t : ℕ) where
@@ -91,9 +88,9 @@ module _ (shape : Shape) (l : Limits) (gate : Gate) (s t : ℕ) where
   sl g = secondLimits gate ks (shape .m) s t l g
 
   -- demand 2, of any call that starts with the rows
-  no-join : {lengths : List ℕ} (next : Verdict Limits) {r : JoinAnswer} → r ≡ joinAnswer (joinRows (shape .n) (cardsOf shape) (shape .m) lengths l gate s t next)
-      → (joinAnswer next ≡ answers.Refused NoJoin → ⊥) → Offered shape lengths l s t
-      → (r ≡ answers.Refused NoJoin) ↔ ((g h : ℕ → ℕ) → Pair gate ks (shape .m) s t l g h → ⊥)
+  no-join : {lengths : List ℕ} (next : Verdict Limits) {r : Outcome} → r ≡ outcomeOf (joinRows (shape .n) (cardsOf shape) (shape .m) lengths l gate s t next)
+      → (outcomeOf next ≡ Refused NoJoin → ⊥) → Offered shape lengths l s t
+      → (r ≡ Refused NoJoin) ↔ ((g h : ℕ → ℕ) → Pair gate ks (shape .m) s t l g h → ⊥)
   no-join next e f o = Iff·trans (refused-eight o gate next e f) (join-exact gate ks (shape .m) s t l (table o) .refused)
 
   -- of limits that hold exactly the first blocks, or the second ones given g
@@ -119,31 +116,31 @@ module _ (shape : Shape) (l : Limits) (gate : Gate) (s t : ℕ) where
 module _ {shape : Shape} {lower upper : List ℕ} {gate : Gate} {s t : ℕ} {toLower toUpper : List ℕ} where
   first-by : (v : Verdict Limits) {toLower′ toUpper′ : List ℕ} → firstVerdict shape lower upper gate s t toLower toUpper ≡ v
       → toLower′ ≡ lowerAfter v (cells (placesOf shape)) toLower → toUpper′ ≡ upperAfter v (cells (placesOf shape)) toUpper
-      → (joinAnswer v ≡ answers.Limits → FirstExact shape (limitsOf lower upper) gate s t (limitsOf toLower′ toUpper′))
-      → JoinFirst shape lower upper gate s t toLower toUpper (joinAnswer v) toLower′ toUpper′
+      → (outcomeOf v ≡ Written → FirstExact shape (limitsOf lower upper) gate s t (limitsOf toLower′ toUpper′))
+      → JoinFirst shape lower upper gate s t toLower toUpper (outcomeOf v) toLower′ toUpper′
   first-by v e low high exact =
       let l = limitsOf lower upper in
       record {
-        answer = ap joinAnswer (sym e);
-        means = join-means v ∙ ap (answerOf (λ l. [])) (sym e);
+        answer = ap outcomeOf (sym e);
+        means = outcome-means v ∙ ap (answerOf (λ l. [])) (sym e);
         lower-after = low ∙ ap (λ (w : Verdict Limits). lowerAfter w (cells (placesOf shape)) toLower) (sym e);
         upper-after = high ∙ ap (λ (w : Verdict Limits). upperAfter w (cells (placesOf shape)) toUpper) (sym e);
-        no-join = no-join shape l gate s t (accepted (fl shape l gate s t)) (ap joinAnswer (sym e)) (λ h. limits-refused h);
+        no-join = no-join shape l gate s t (accepted (fl shape l gate s t)) (ap outcomeOf (sym e)) (λ h. written-refused h);
         exact = exact;
       }
 
-  pub first-stopped : {shortest : ℕ} {r : JoinAnswer} {q : Refusal} → Judgement shape (limitsOf lower upper) s t shortest r
-      → shortest ≡ shortestOf (length lower) (length upper ∷ length toLower ∷ length toUpper ∷ []) → r ≡ answers.Refused q
-      → JoinFirst shape lower upper gate s t toLower toUpper (answers.Refused q) toLower toUpper
-  first-stopped j short e = first-by (refused _) (stopped j (length lower) (length upper ∷ length toLower ∷ length toUpper ∷ []) short e gate _) refl refl (λ h. refused-limits h)
+  pub first-stopped : {shortest : ℕ} {r : Outcome} {q : Refusal} → Judgement shape (limitsOf lower upper) s t shortest r
+      → shortest ≡ shortestOf (length lower) (length upper ∷ length toLower ∷ length toUpper ∷ []) → r ≡ Refused q
+      → JoinFirst shape lower upper gate s t toLower toUpper (Refused q) toLower toUpper
+  first-stopped j short e = first-by (refused _) (stopped j (length lower) (length upper ∷ length toLower ∷ length toUpper ∷ []) short e gate _) refl refl (λ h. refused-written h)
 
   module _ {ks : List ℕ} {n : ℕ} {w w₁ : List ℕ} {r : Bool} (call : Call shape lower upper s t (length toLower ∷ length toUpper ∷ []) ks n)
       (o : Opens gate ks (shape .m) s t (limitsOf lower upper) n w r w₁) where
-    pub first-no-join : r ≡ false → JoinFirst shape lower upper gate s t toLower toUpper (answers.Refused NoJoin) toLower toUpper
-    first-no-join e = first-by (refused NoJoin) (rows-by call o e _) refl refl (λ h. refused-limits h)
+    pub first-no-join : r ≡ false → JoinFirst shape lower upper gate s t toLower toUpper (Refused NoJoin) toLower toUpper
+    first-no-join e = first-by (refused NoJoin) (rows-by call o e _) refl refl (λ h. refused-written h)
 
     pub first-limits : {w₂ toLower′ toUpper′ : List ℕ} → r ≡ true → First gate ks (shape .m) t n w₁ w₂ → Delivered n w₂ toLower toUpper toLower′ toUpper′
-        → JoinFirst shape lower upper gate s t toLower toUpper answers.Limits toLower′ toUpper′
+        → JoinFirst shape lower upper gate s t toLower toUpper Written toLower′ toUpper′
     first-limits e f d =
         let l = limitsOf lower upper in
         let y = f .limits s l (o .joining .opened) in
@@ -154,35 +151,35 @@ module _ {shape : Shape} {lower upper : List ℕ} {gate : Gate} {s t : ℕ} {toL
 module _ {shape : Shape} {lower upper : List ℕ} {gate : Gate} {s t : ℕ} {g toLower toUpper : List ℕ} where
   second-by : (v : Verdict Limits) {toLower′ toUpper′ : List ℕ} → secondVerdict shape lower upper gate s t g toLower toUpper ≡ v
       → toLower′ ≡ lowerAfter v (cells (placesOf shape)) toLower → toUpper′ ≡ upperAfter v (cells (placesOf shape)) toUpper
-      → (joinAnswer v ≡ answers.Limits → SecondExact shape (limitsOf lower upper) gate s t g (limitsOf toLower′ toUpper′))
-      → JoinSecond shape lower upper gate s t g toLower toUpper (joinAnswer v) toLower′ toUpper′
+      → (outcomeOf v ≡ Written → SecondExact shape (limitsOf lower upper) gate s t g (limitsOf toLower′ toUpper′))
+      → JoinSecond shape lower upper gate s t g toLower toUpper (outcomeOf v) toLower′ toUpper′
   second-by v e low high exact =
       let l = limitsOf lower upper in
       let nine = blockSound (placesOf shape) t (fl shape l gate s t) g in
       record {
-        answer = ap joinAnswer (sym e);
-        means = join-means v ∙ ap (answerOf (λ l. [])) (sym e);
+        answer = ap outcomeOf (sym e);
+        means = outcome-means v ∙ ap (answerOf (λ l. [])) (sym e);
         lower-after = low ∙ ap (λ (w : Verdict Limits). lowerAfter w (cells (placesOf shape)) toLower) (sym e);
         upper-after = high ∙ ap (λ (w : Verdict Limits). upperAfter w (cells (placesOf shape)) toUpper) (sym e);
-        no-join = no-join shape l gate s t (unless nine FirstBlock (accepted (sl shape l gate s t g))) (ap joinAnswer (sym e)) (not-eight nine _);
+        no-join = no-join shape l gate s t (unless nine FirstBlock (accepted (sl shape l gate s t g))) (ap outcomeOf (sym e)) (not-eight nine _);
         exact = exact;
       }
 
-  pub second-stopped : {shortest : ℕ} {r : JoinAnswer} {q : Refusal} → Judgement shape (limitsOf lower upper) s t shortest r
-      → shortest ≡ shortestOf (length lower) (length upper ∷ length g ∷ length toLower ∷ length toUpper ∷ []) → r ≡ answers.Refused q
-      → JoinSecond shape lower upper gate s t g toLower toUpper (answers.Refused q) toLower toUpper
-  second-stopped j short e = second-by (refused _) (stopped j (length lower) (length upper ∷ length g ∷ length toLower ∷ length toUpper ∷ []) short e gate _) refl refl (λ h. refused-limits h)
+  pub second-stopped : {shortest : ℕ} {r : Outcome} {q : Refusal} → Judgement shape (limitsOf lower upper) s t shortest r
+      → shortest ≡ shortestOf (length lower) (length upper ∷ length g ∷ length toLower ∷ length toUpper ∷ []) → r ≡ Refused q
+      → JoinSecond shape lower upper gate s t g toLower toUpper (Refused q) toLower toUpper
+  second-stopped j short e = second-by (refused _) (stopped j (length lower) (length upper ∷ length g ∷ length toLower ∷ length toUpper ∷ []) short e gate _) refl refl (λ h. refused-written h)
 
   module _ {ks : List ℕ} {n : ℕ} {w w₁ : List ℕ} {r : Bool} (call : Call shape lower upper s t (length g ∷ length toLower ∷ length toUpper ∷ []) ks n)
       (o : Opens gate ks (shape .m) s t (limitsOf lower upper) n w r w₁) where
-    pub second-no-join : r ≡ false → JoinSecond shape lower upper gate s t g toLower toUpper (answers.Refused NoJoin) toLower toUpper
-    second-no-join e = second-by (refused NoJoin) (rows-by call o e _) refl refl (λ h. refused-limits h)
+    pub second-no-join : r ≡ false → JoinSecond shape lower upper gate s t g toLower toUpper (Refused NoJoin) toLower toUpper
+    second-no-join e = second-by (refused NoJoin) (rows-by call o e _) refl refl (λ h. refused-written h)
 
     module _ {w₂ : List ℕ} {q : Bool} (e : r ≡ true) (c : Completes gate ks (shape .m) s t n g w₁ q w₂) where
-      pub second-no-block : q ≡ false → JoinSecond shape lower upper gate s t g toLower toUpper (answers.Refused FirstBlock) toLower toUpper
-      second-no-block k = second-by (refused FirstBlock) (rows-by call o e _ ∙ unless-is (row-nine call o c k) _) refl refl (λ h. refused-limits h)
+      pub second-no-block : q ≡ false → JoinSecond shape lower upper gate s t g toLower toUpper (Refused FirstBlock) toLower toUpper
+      second-no-block k = second-by (refused FirstBlock) (rows-by call o e _ ∙ unless-is (row-nine call o c k) _) refl refl (λ h. refused-written h)
 
-      pub second-limits : {toLower′ toUpper′ : List ℕ} → q ≡ true → Delivered n w₂ toLower toUpper toLower′ toUpper′ → JoinSecond shape lower upper gate s t g toLower toUpper answers.Limits toLower′ toUpper′
+      pub second-limits : {toLower′ toUpper′ : List ℕ} → q ≡ true → Delivered n w₂ toLower toUpper toLower′ toUpper′ → JoinSecond shape lower upper gate s t g toLower toUpper Written toLower′ toUpper′
       second-limits k d =
           let l = limitsOf lower upper in
           let y = c .limits l (o .joining) k in

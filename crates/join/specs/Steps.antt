@@ -6,16 +6,15 @@ use mathlib.Core.List.{List, _++_}
 use lib.Dec.{leb}
 use lib.ListN.{length, drop}
 use Rattle.rules.specs.declared.Gate.{Gate}
+use Rattle.rules.specs.declared.Outcome.{Outcome}
 use Rattle.rules.specs.declared.Refusal.the-variants.{ShapeRange, GradeLimits, Sets, ShortBuffer}
 use Rattle.rules.specs.Cell.{cells}
-use Rattle.rules.specs.Verdict.{accepted, unless}
+use Rattle.rules.specs.Verdict.{accepted, unless, outcomeOf}
 use Rattle.rules.specs.Limits.{Limits, limitsOf, limitsSound}
 use Rattle.rules.specs.Join.{setsSound, joinExists, firstLimits, secondLimits, blockSound}
 use Rattle.rules.specs.Demands.{Table}
 use Rattle.shape.specs.declared.Shape.{Shape}
 use Rattle.shape.specs.Shapes.{placesOf, isSound}
-use Rattle.join.specs.declared.JoinAnswer.{JoinAnswer}
-use Rattle.join.specs.Calls.{joinAnswer}
 use Rattle.join_tables.specs.Parts.{Placed, Opened}
 
 -- what is read off a shape and two buffers before they are judged
@@ -26,9 +25,9 @@ pub record Ready (shape : Shape) (ks : List ℕ) (n : ℕ) (lower upper : List �
   pub high : shortest ≤ length upper
 
 -- rows 4, 10, 5 and 7, for whatever buffers the shortest of which has that length
-pub record Judgement (shape : Shape) (l : Limits) (s t shortest : ℕ) (r : JoinAnswer) : Type 0 where
+pub record Judgement (shape : Shape) (l : Limits) (s t shortest : ℕ) (r : Outcome) : Type 0 where
   pub answer : r
-      ≡ joinAnswer
+      ≡ outcomeOf
       (unless (isSound shape) ShapeRange
       (unless (leb (cells (placesOf shape)) shortest) ShortBuffer
       (unless (limitsSound (placesOf shape) (shape .m) l) GradeLimits

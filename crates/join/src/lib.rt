@@ -6,6 +6,7 @@ ghost use Rattle.rules.specs.Limits.{limitsOf};
 ghost use Rattle.join.specs.Calls.{JoinFirst, JoinSecond};
 ghost use Rattle.join.specs.Steps.{Ready, Judgement, Opening, Opens, Given, Completes, Delivered};
 use rules::Gate;
+use rules::Outcome;
 use rules::PLACES;
 use rules::Refusal;
 use shape::Shape;
@@ -17,20 +18,14 @@ mod sets;
 // Six tables of as many cells as a shape can have.
 const WORK: usize = 6144;
 
-// Limits written to the two buffers lent for them, or why not.
-pub enum JoinAnswer {
-    Limits,
-    Refused(Refusal),
-}
-
 fn shorter(a: usize, b: usize) -> usize
     ensures { λ r. ⌜ r ≡ min a b ⌝ }
 {
     if a < b { a } else { b }
 }
 
-// Rows 4, 10, 5 and 7, with the length of the shortest lent buffer. `Limits` says that they let the
-// call pass.
+// Rows 4, 10, 5 and 7, with the length of the shortest lent buffer. `Written` says that they let
+// the call pass; nothing is written yet.
 fn judge(
     shape: Shape,
     ks: [u8; PLACES],
@@ -40,23 +35,23 @@ fn judge(
     shortest: usize,
     s: u8,
     t: u8,
-) -> JoinAnswer
+) -> Outcome
     requires { ⌜ Ready shape ks n (now lower) (now upper) shortest ⌝ }
     ensures { λ r. ⌜ Judgement shape (limitsOf (now (lower .entry)) (now (upper .entry))) s t shortest r ⌝ }
 {
     if !shape.sound() {
-        return JoinAnswer::Refused(Refusal::ShapeRange);
+        return Outcome::Refused(Refusal::ShapeRange);
     }
     if shortest < n {
-        return JoinAnswer::Refused(Refusal::ShortBuffer);
+        return Outcome::Refused(Refusal::ShortBuffer);
     }
     if !limits::limits_sound(lower, upper, shape.m, n) {
-        return JoinAnswer::Refused(Refusal::GradeLimits);
+        return Outcome::Refused(Refusal::GradeLimits);
     }
     if sets::sets_sound(ks, s, t) {
-        return JoinAnswer::Limits;
+        return Outcome::Written;
     }
-    JoinAnswer::Refused(Refusal::Sets)
+    Outcome::Refused(Refusal::Sets)
 }
 
 // Opens the join under the lent limits in the work buffer. Row 8: whether it exists.
@@ -111,7 +106,7 @@ fn deliver(w: &[u8], n: usize, out_lower: &mut [u8], out_upper: &mut [u8])
     fill::unload(w, 5 * n, out_upper, n);
 }
 
-// The limits of a join's first block.
+// The limits of a join's first block, to the two buffers lent for them.
 pub fn join_first(
     shape: Shape,
     lower: &[u8],
@@ -121,7 +116,7 @@ pub fn join_first(
     t: u8,
     out_lower: &mut [u8],
     out_upper: &mut [u8],
-) -> JoinAnswer
+) -> Outcome
     ensures { λ r. ⌜ JoinFirst shape (now (lower .entry)) (now (upper .entry)) gate s t (now («out_lower» .entry)) (now («out_upper» .entry)) r (now («out_lower» .exit)) (now («out_upper» .exit)) ⌝ }
 {
     let ks = shape.places();
@@ -129,15 +124,15 @@ pub fn join_first(
     let outs = shorter(out_lower.len(), out_upper.len());
     let shortest = shorter(lower.len(), shorter(upper.len(), outs));
     match judge(shape, ks, n, lower, upper, shortest, s, t) {
-        JoinAnswer::Refused(refusal) => JoinAnswer::Refused(refusal),
-        JoinAnswer::Limits => {
+        Outcome::Refused(refusal) => Outcome::Refused(refusal),
+        Outcome::Written => {
             let mut work = [0u8; WORK];
             if !open(&mut work, lower, upper, gate, ks, shape.m, s, t, n) {
-                return JoinAnswer::Refused(Refusal::NoJoin);
+                return Outcome::Refused(Refusal::NoJoin);
             }
             join_tables::first_limits(&mut work, gate, ks, shape.m, t, n);
             deliver(&work, n, out_lower, out_upper);
-            JoinAnswer::Limits
+            Outcome::Written
         }
     }
 }
@@ -153,7 +148,7 @@ pub fn join_second(
     g: &[u8],
     out_lower: &mut [u8],
     out_upper: &mut [u8],
-) -> JoinAnswer
+) -> Outcome
     ensures { λ r. ⌜ JoinSecond shape (now (lower .entry)) (now (upper .entry)) gate s t (now (g .entry)) (now («out_lower» .entry)) (now («out_upper» .entry)) r (now («out_lower» .exit)) (now («out_upper» .exit)) ⌝ }
 {
     let ks = shape.places();
@@ -161,17 +156,17 @@ pub fn join_second(
     let outs = shorter(out_lower.len(), out_upper.len());
     let shortest = shorter(lower.len(), shorter(upper.len(), shorter(g.len(), outs)));
     match judge(shape, ks, n, lower, upper, shortest, s, t) {
-        JoinAnswer::Refused(refusal) => JoinAnswer::Refused(refusal),
-        JoinAnswer::Limits => {
+        Outcome::Refused(refusal) => Outcome::Refused(refusal),
+        Outcome::Written => {
             let mut work = [0u8; WORK];
             if !open(&mut work, lower, upper, gate, ks, shape.m, s, t, n) {
-                return JoinAnswer::Refused(Refusal::NoJoin);
+                return Outcome::Refused(Refusal::NoJoin);
             }
             if !second_given(&mut work, gate, ks, shape.m, s, t, g, n) {
-                return JoinAnswer::Refused(Refusal::FirstBlock);
+                return Outcome::Refused(Refusal::FirstBlock);
             }
             deliver(&work, n, out_lower, out_upper);
-            JoinAnswer::Limits
+            Outcome::Written
         }
     }
 }

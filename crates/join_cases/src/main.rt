@@ -1,15 +1,15 @@
 // Runs the two join calls on document 01's tables E and F and on an input for each refusal that a
 // join can meet, and prints what it got: the answer, and both output buffers whole.
-use join::JoinAnswer;
 use rules::Gate;
+use rules::Outcome;
 use shape::Shape;
 
-fn show(name: &[u8], answer: JoinAnswer, lower: &[u8], upper: &[u8]) {
+fn show(name: &[u8], answer: Outcome, lower: &[u8], upper: &[u8]) {
     printing::text(name);
     printing::text(b": ");
     match answer {
-        JoinAnswer::Limits => printing::text(b"limits"),
-        JoinAnswer::Refused(refusal) => printing::refused(refusal),
+        Outcome::Written => printing::text(b"limits"),
+        Outcome::Refused(refusal) => printing::refused(refusal),
     }
     printing::text(b", buffers");
     printing::limits(lower, upper);

@@ -7,41 +7,28 @@ use native.Mathlib.Omega.{arith}
 use borrow.Author.Tests.{lt-ltb, le-leb}
 use lib.Dec.{leb, ltb}
 use lib.ListN.{length, drop, length-map, List·getD-append}
+use Rattle.rules.specs.declared.Outcome.{Outcome}
+use Rattle.rules.specs.declared.Outcome.the-variants.{Written, Refused}
 use Rattle.rules.specs.declared.Refusal.{Refusal}
 use Rattle.rules.specs.declared.Refusal.the-variants.{ShapeRange, ShortBuffer, Network, CellNumber}
 use Rattle.rules.specs.Bytes.{pick, at, Past}
 use Rattle.rules.specs.Cell.{cells}
-use Rattle.rules.specs.Verdict.{Verdict, accepted, refused, unless, answerOf}
+use Rattle.rules.specs.Verdict.{Verdict, accepted, refused, unless, outcomeOf, outcomeMeans}
 use Rattle.rules.specs.Network.{networkSound, evaluate}
 use Rattle.rules.specs.NetworkCalls.{evaluateCall}
 use Rattle.rules.specs.Visits.{noCell, visitByte, byteVerdict}
 use Rattle.laws.proofs.TestLaws.{and-true}
 use Rattle.laws.proofs.TableLaws.{at-map}
-use Rattle.laws.proofs.VerdictLaws.{refused-accepted, accepted-same, row-pass, row-passed, same-stop}
+use Rattle.laws.proofs.VerdictLaws.{refused-accepted, accepted-same, row-pass, row-passed, same-stop, outcome-means, was-written, was-refused}
 use Rattle.laws.proofs.ByteLaws.{past-same}
 use Rattle.shape.specs.declared.Shape.{Shape}
 use Rattle.shape.specs.Shapes.{cardsOf, placesOf, isSound}
 use Rattle.shape.proofs.ShapeLaws.{sound-shape}
 use Rattle.network_run.proofs.BelowLaws.{grade-below}
 use Rattle.network_visits.specs.Visiting.{VisitedEach}
-use Rattle.network.specs.declared.EachAnswer.{EachAnswer}
-use Rattle.network.specs.declared.EachAnswer.the-variants.{Grades, Refused}
 use Rattle.network.specs.Evaluating.{GradeAt}
-use Rattle.network.specs.EvaluatingEach.{eachAnswer, eachMeans, gradesAfter, eachRows, EvaluatedEach}
+use Rattle.network.specs.EvaluatingEach.{gradesAfter, eachRows, EvaluatedEach}
 use Rattle.network.proofs.EvaluateLaws.{network-grade}
-
--- the verdict behind an answer
-was-accepted : (v : Verdict (List ℕ)) → eachAnswer v ≡ Grades → (bytes : List ℕ) × (v ≡ accepted bytes)
-was-accepted (accepted bytes) e = (bytes, refl)
-was-accepted (refused r) e = let z : _≡_ {A = ℕ} 0 1 = cc in absurd (omega arith)
-
-was-refused : (v : Verdict (List ℕ)) {r : Refusal} → eachAnswer v ≡ Refused r → v ≡ refused r
-was-refused (accepted bytes) e = let z : _≡_ {A = ℕ} 0 1 = cc in absurd (omega arith)
-was-refused (refused q) e = ap refused cc
-
-each-means : (v : Verdict (List ℕ)) → eachMeans (eachAnswer v) ≡ answerOf (λ bytes. []) v
-each-means (accepted bytes) = refl
-each-means (refused r) = refl
 
 -- with no number there is no byte
 none-after : (f : ℕ → ℕ) (visits grades : List ℕ) → length visits ≡ 0 → (v : Verdict (List ℕ)) → ((bytes : List ℕ) → v ≡ accepted bytes → map f visits ≡ bytes) → gradesAfter v grades ≡ grades
@@ -107,17 +94,17 @@ module _ (shape : Shape) (net visits grades work : List ℕ) where
       e
 
   -- the promise, of an answer by the rows
-  each-by-rows : {r : EachAnswer} {grades′ work′ : List ℕ} → r ≡ eachAnswer rows → grades′ ≡ gradesAfter rows grades → ((q : Refusal) → r ≡ Refused q → work′ ≡ work)
+  each-by-rows : {r : Outcome} {grades′ work′ : List ℕ} → r ≡ outcomeOf rows → grades′ ≡ gradesAfter rows grades → ((q : Refusal) → r ≡ Refused q → work′ ≡ work)
       → (length visits ≡ 0 → work′ ≡ work) → Past (length net / 16) work work′ → EvaluatedEach shape net visits grades work r grades′ work′
   each-by-rows e after keeps none kept =
       record {
         answer = e;
-        means = ap eachMeans e ∙ each-means rows;
+        means = ap outcomeMeans e ∙ outcome-means rows;
         grades-after = after;
-        grade-means = λ a i h l. subst (λ (g : List ℕ). GradeAt shape net (at visits i) (at g i)) (sym after) (each-grade (was-accepted rows (sym e ∙ a) .1) i h l);
+        grade-means = λ a i h l. subst (λ (g : List ℕ). GradeAt shape net (at visits i) (at g i)) (sym after) (each-grade (was-written rows (sym a ∙ e) .1) i h l);
         as-single = λ a i h w w′ s room found.
-            found .answers ∙ each-single (was-accepted rows (sym e ∙ a) .1) i h (length w) room ∙ ap (λ (g : List ℕ). byteVerdict (at g i)) (sym after);
-        stops-as-single = λ q a room cell w′ s found. found .answers ∙ stops-single (was-refused rows (sym e ∙ a)) room cell;
+            found .answers ∙ each-single (was-written rows (sym a ∙ e) .1) i h (length w) room ∙ ap (λ (g : List ℕ). byteVerdict (at g i)) (sym after);
+        stops-as-single = λ q a room cell w′ s found. found .answers ∙ stops-single (was-refused rows (sym a ∙ e)) room cell;
         refusal-keeps = keeps;
         none-keeps = λ h. (after ∙ none-after (visitByte ks net) visits grades h rows (λ bytes u. bytes-are u), none h);
         kept = kept;
@@ -125,11 +112,11 @@ module _ (shape : Shape) (net visits grades work : List ℕ) where
 
   pub each-stops : {r : Refusal} → rows ≡ refused r → EvaluatedEach shape net visits grades work (Refused r) grades work
   each-stops e =
-      each-by-rows (sym (ap eachAnswer e)) (sym (ap (λ (v : Verdict (List ℕ)). gradesAfter v grades) e)) (λ q h. refl) (λ h. refl) past-same
+      each-by-rows (sym (ap outcomeOf e)) (sym (ap (λ (v : Verdict (List ℕ)). gradesAfter v grades) e)) (λ q h. refl) (λ h. refl) past-same
 
   pub each-answers : rows ≡ accepted (map (visitByte ks net) visits) → {grades′ work′ : List ℕ} → VisitedEach shape net visits grades work grades′ work′
-      → EvaluatedEach shape net visits grades work Grades grades′ work′
+      → EvaluatedEach shape net visits grades work Written grades′ work′
   each-answers e found =
-      each-by-rows (sym (ap eachAnswer e))
+      each-by-rows (sym (ap outcomeOf e))
       (found .bytes ∙ ap (λ (n : ℕ). map (visitByte ks net) visits ++ drop n grades) (sym (length-map visits (visitByte ks net))) ∙ sym (ap (λ (v : Verdict (List ℕ)). gradesAfter v grades) e))
       (λ r h. let z : _≡_ {A = ℕ} 0 1 = cc in absurd (omega arith)) (found .none-keeps) (found .kept)

@@ -3,29 +3,19 @@ use Prim.Native.Nat.{ℕ, _/_, _≤_, _<_}
 use mathlib.Core.Path.{_≡_}
 use mathlib.Core.List.{List, [], _++_}
 use lib.ListN.{length, drop}
+use Rattle.rules.specs.declared.Outcome.{Outcome}
+use Rattle.rules.specs.declared.Outcome.the-variants.{Written, Refused}
 use Rattle.rules.specs.declared.Refusal.{Refusal}
 use Rattle.rules.specs.Bytes.{at, Past}
 use Rattle.rules.specs.Cell.{cells}
-use Rattle.rules.specs.Verdict.{Verdict, accepted, refused, Answer, granted, denied, answerOf}
+use Rattle.rules.specs.Verdict.{Verdict, accepted, refused, answerOf, outcomeOf, outcomeMeans}
 use Rattle.rules.specs.Visits.{byteVerdict, evaluateEachCall}
 use Rattle.shape.specs.declared.Shape.{Shape}
 use Rattle.shape.specs.Shapes.{cardsOf, placesOf}
 use Rattle.network.specs.declared.Evaluation.{Evaluation}
-use Rattle.network.specs.declared.EachAnswer.{EachAnswer}
-use Rattle.network.specs.declared.EachAnswer.the-variants as answers
 use Rattle.network.specs.Evaluating.{evaluationVerdict, GradeAt, Evaluated}
 
--- the answer to a verdict
-abbrev pub eachAnswer : Verdict (List ℕ) → EachAnswer
-eachAnswer (accepted bytes) = answers.Grades
-eachAnswer (refused q) = answers.Refused q
-
--- what it says in 01's numbers; the bytes themselves are in the output buffer
-abbrev pub eachMeans : EachAnswer → Answer
-eachMeans answers.Grades = granted []
-eachMeans (answers.Refused q) = denied q
-
--- the output buffer after it: a byte for each number and what lay behind them, or all as it was
+-- the output buffer after a call: a byte for each number and what lay behind them, or all as it was
 abbrev pub gradesAfter : Verdict (List ℕ) → List ℕ → List ℕ
 gradesAfter (accepted bytes) grades = bytes ++ drop (length bytes) grades
 gradesAfter (refused q) grades = grades
@@ -40,18 +30,18 @@ module _ (shape : Shape) (net visits grades work : List ℕ) where
 
   -- the answer and every byte of the output buffer, by these rows; a refusal leaves the work buffer too, a list with no number changes nothing,
   -- and of the work buffer its length and its bytes past one for each record stay
-  pub record EvaluatedEach (r : EachAnswer) (grades′ work′ : List ℕ) : Type 0 where
-    pub answer : r ≡ eachAnswer verdict
-    pub means : eachMeans r ≡ answerOf (λ bytes. []) verdict
+  pub record EvaluatedEach (r : Outcome) (grades′ work′ : List ℕ) : Type 0 where
+    pub answer : r ≡ outcomeOf verdict
+    pub means : outcomeMeans r ≡ answerOf (λ bytes. []) verdict
     pub grades-after : grades′ ≡ gradesAfter verdict grades
     -- in plain words, the byte for a cell is the network's grade there
-    pub grade-means : r ≡ answers.Grades → (i : ℕ) → i < length visits → at visits i < cells (placesOf shape) → GradeAt shape net (at visits i) (at grades′ i)
+    pub grade-means : r ≡ Written → (i : ℕ) → i < length visits → at visits i < cells (placesOf shape) → GradeAt shape net (at visits i) (at grades′ i)
     -- and each byte says what `evaluate` answers for its number, whatever work buffer that is lent
-    pub as-single : r ≡ answers.Grades → (i : ℕ) → i < length visits → (w w′ : List ℕ) (single : Evaluation) → length net / 16 ≤ length w
+    pub as-single : r ≡ Written → (i : ℕ) → i < length visits → (w w′ : List ℕ) (single : Evaluation) → length net / 16 ≤ length w
         → Evaluated shape net (at visits i) w w′ single → evaluationVerdict single ≡ byteVerdict (at grades′ i)
     -- with room for the bytes, the call stops as `evaluate` does with the same work buffer, whatever the cell
-    pub stops-as-single : (q : Refusal) → r ≡ answers.Refused q → length visits ≤ length grades → (cell : ℕ) (w′ : List ℕ) (single : Evaluation)
+    pub stops-as-single : (q : Refusal) → r ≡ Refused q → length visits ≤ length grades → (cell : ℕ) (w′ : List ℕ) (single : Evaluation)
         → Evaluated shape net cell work w′ single → evaluationVerdict single ≡ refused q
-    pub refusal-keeps : (q : Refusal) → r ≡ answers.Refused q → work′ ≡ work
+    pub refusal-keeps : (q : Refusal) → r ≡ Refused q → work′ ≡ work
     pub none-keeps : length visits ≡ 0 → (grades′ ≡ grades) × (work′ ≡ work)
     pub kept : Past (length net / 16) work work′

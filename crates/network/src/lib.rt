@@ -8,18 +8,13 @@ ghost use Rattle.rules.specs.Verdict.{roomy};
 ghost use Rattle.network.specs.Evaluating.{Evaluated};
 ghost use Rattle.network.specs.EvaluatingEach.{EvaluatedEach};
 ghost use Rattle.network.specs.Checking.{Checked, Checkable, Searched};
+use rules::Outcome;
 use rules::RECORD;
 use rules::Refusal;
 use shape::Shape;
 
 pub enum Evaluation {
     Grade(u8),
-    Refused(Refusal),
-}
-
-// A byte for each number of a list written to the buffer lent for them, or why not.
-pub enum EachAnswer {
-    Grades,
     Refused(Refusal),
 }
 
@@ -57,23 +52,23 @@ pub fn evaluate_each(
     cells: &[u16],
     grades: &mut [u8],
     work: &mut [u8],
-) -> EachAnswer
+) -> Outcome
     ensures { λ r. ⌜ EvaluatedEach shape (now (network .entry)) (now (cells .entry)) (now (grades .entry)) (now (work .entry)) r (now (grades .exit)) (now (work .exit)) ⌝ }
 {
     if !shape.sound() {
-        return EachAnswer::Refused(Refusal::ShapeRange);
+        return Outcome::Refused(Refusal::ShapeRange);
     }
     if work.len() < network.len() / RECORD {
-        return EachAnswer::Refused(Refusal::ShortBuffer);
+        return Outcome::Refused(Refusal::ShortBuffer);
     }
     if grades.len() < cells.len() {
-        return EachAnswer::Refused(Refusal::ShortBuffer);
+        return Outcome::Refused(Refusal::ShortBuffer);
     }
     if !network_scan::scan(network, shape.places(), shape.m) {
-        return EachAnswer::Refused(Refusal::Network);
+        return Outcome::Refused(Refusal::Network);
     }
     network_visits::grade_each(network, shape, cells, grades, work);
-    EachAnswer::Grades
+    Outcome::Written
 }
 
 // Whether the network's grade lies within the limits at every cell.

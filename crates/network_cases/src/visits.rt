@@ -2,26 +2,26 @@
 // number; then the whole buffer of the grades, and the bytes of the work buffer that the call had to
 // leave: all of them after a refusal and for an empty list. The buffers hold 77 and 99 before.
 use crate::Records;
-use network::EachAnswer;
+use rules::Outcome;
 use shape::Shape;
 
-fn show_answer(answer: EachAnswer) {
+fn show_answer(answer: Outcome) {
     match answer {
-        EachAnswer::Grades => printing::text(b"written"),
-        EachAnswer::Refused(refusal) => printing::refused(refusal),
+        Outcome::Written => printing::text(b"written"),
+        Outcome::Refused(refusal) => printing::refused(refusal),
     }
 }
 
 // How many bytes of the work buffer a call may write.
-fn free(answer: EachAnswer, network: &[u8], cells: &[u16]) -> usize {
+fn free(answer: Outcome, network: &[u8], cells: &[u16]) -> usize {
     match answer {
-        EachAnswer::Grades => {
+        Outcome::Written => {
             if cells.len() == 0 {
                 return 0;
             }
             network.len() / 16
         }
-        EachAnswer::Refused(_) => 0,
+        Outcome::Refused(_) => 0,
     }
 }
 

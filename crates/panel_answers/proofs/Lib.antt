@@ -1,2 +1,3 @@
 -- Laws of `panel_answers`.
 pub mod ShapeLaws
+pub mod OutcomeLaws

@@ -5,6 +5,8 @@ use mathlib.Core.Bool.{cond}
 use mathlib.Core.List.{List}
 use lib.Dec.{eqb}
 use lib.ListN.{length, take, drop}
+use Rattle.rules.specs.declared.Outcome.{Outcome}
+use Rattle.rules.specs.declared.Outcome.the-variants as outcomes
 use Rattle.rules.specs.declared.Refusal.the-variants.{ShapeRange}
 use Rattle.rules.specs.Bytes.{at}
 use Rattle.rules.specs.Cell.{cells}
@@ -13,15 +15,11 @@ use Rattle.rules.specs.Verdict.{Verdict, accepted, refused}
 use Rattle.rules.specs.NetworkCalls.{CheckResult, within, outside}
 use Rattle.shape.specs.declared.Shape.{Shape}
 use Rattle.shape.specs.Shapes.{shapeFrom, placesOf}
-use Rattle.join.specs.declared.JoinAnswer.{JoinAnswer}
-use Rattle.join.specs.declared.JoinAnswer.the-variants as joins
 use Rattle.compile.specs.declared.CompileAnswer.{CompileAnswer}
 use Rattle.compile.specs.declared.CompileAnswer.the-variants as compiles
 use Rattle.network.specs.declared.Evaluation.{Evaluation}
 use Rattle.network.specs.declared.Evaluation.the-variants.{Grade}
 use Rattle.network.specs.Evaluating.{evaluationVerdict}
-use Rattle.network.specs.declared.EachAnswer.{EachAnswer}
-use Rattle.network.specs.declared.EachAnswer.the-variants as lists
 use Rattle.network.specs.declared.CheckAnswer.{CheckAnswer}
 use Rattle.network.specs.declared.CheckAnswer.the-variants as checks
 
@@ -53,17 +51,13 @@ resultNumber within = 0
 resultNumber (outside cell grade) = 1 + 16 * cell + grade
 
 -- the same, of the answers that the calls of the other crates give
-abbrev pub joinNumber : JoinAnswer → ℕ
-joinNumber joins.Limits = 0
-joinNumber (joins.Refused r) = 65536 + refusalNumber r
+abbrev pub outcomeNumber : Outcome → ℕ
+outcomeNumber outcomes.Written = 0
+outcomeNumber (outcomes.Refused r) = 65536 + refusalNumber r
 
 abbrev pub compileNumber : CompileAnswer → ℕ
 compileNumber (compiles.Records n) = n
 compileNumber (compiles.Refused r) = 65536 + refusalNumber r
-
-abbrev pub eachNumber : EachAnswer → ℕ
-eachNumber lists.Grades = 0
-eachNumber (lists.Refused r) = 65536 + refusalNumber r
 
 abbrev pub checkNumber : CheckAnswer → ℕ
 checkNumber checks.Within = 0

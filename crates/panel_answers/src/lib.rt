@@ -2,12 +2,11 @@
 ghost use Prim.Native.Nat.{_+_};
 ghost use mathlib.Core.Path.{_≡_};
 ghost use Rattle.rules.specs.Refusal.{refusalNumber};
-ghost use Rattle.panel_answers.specs.Answers.{joinNumber, compileNumber, eachNumber, checkNumber, FewRecords, FewCells, Answered};
+ghost use Rattle.panel_answers.specs.Answers.{outcomeNumber, compileNumber, checkNumber, FewRecords, FewCells, Answered};
 use compile::CompileAnswer;
-use join::JoinAnswer;
 use network::CheckAnswer;
-use network::EachAnswer;
 use network::Evaluation;
+use rules::Outcome;
 use rules::Refusal;
 
 // What C adds to a refusal's number: evaluating, so that no refusal is a grade, and the other calls.
@@ -32,12 +31,12 @@ pub fn of_refusal(refusal: Refusal) -> u32
     REFUSED + refusal.number()
 }
 
-pub fn of_join(answer: JoinAnswer) -> u32
-    ensures { λ r. ⌜ r ≡ joinNumber answer ⌝ }
+pub fn of_outcome(outcome: Outcome) -> u32
+    ensures { λ r. ⌜ r ≡ outcomeNumber outcome ⌝ }
 {
-    match answer {
-        JoinAnswer::Limits => 0,
-        JoinAnswer::Refused(refusal) => of_refusal(refusal),
+    match outcome {
+        Outcome::Written => 0,
+        Outcome::Refused(refusal) => of_refusal(refusal),
     }
 }
 
@@ -48,15 +47,6 @@ pub fn of_compile(answer: CompileAnswer) -> u32
     match answer {
         CompileAnswer::Records(count) => count as u32,
         CompileAnswer::Refused(refusal) => of_refusal(refusal),
-    }
-}
-
-pub fn of_each(answer: EachAnswer) -> u32
-    ensures { λ r. ⌜ r ≡ eachNumber answer ⌝ }
-{
-    match answer {
-        EachAnswer::Grades => 0,
-        EachAnswer::Refused(refusal) => of_refusal(refusal),
     }
 }
 

@@ -19,7 +19,7 @@ pub fn first(
     match Shape::from_bytes(shape) {
         ShapeAnswer::Refused(refusal) => panel_answers::of_refusal(refusal),
         ShapeAnswer::Accepted(shape) => {
-            panel_answers::of_join(join::join_first(
+            panel_answers::of_outcome(join::join_first(
                 shape,
                 lower,
                 upper,
@@ -49,7 +49,7 @@ pub fn second(
     match Shape::from_bytes(shape) {
         ShapeAnswer::Refused(refusal) => panel_answers::of_refusal(refusal),
         ShapeAnswer::Accepted(shape) => {
-            panel_answers::of_join(join::join_second(
+            panel_answers::of_outcome(join::join_second(
                 shape,
                 lower,
                 upper,

@@ -6,6 +6,8 @@ use mathlib.Core.List.{List}
 use native.Mathlib.Omega.{arith}
 use lib.Dec.{eqb}
 use lib.ListN.{length}
+use Rattle.rules.specs.declared.Outcome.{Outcome}
+use Rattle.rules.specs.declared.Outcome.the-variants.{Written, Refused}
 use Rattle.rules.specs.declared.Refusal.{Refusal}
 use Rattle.rules.specs.declared.Refusal.the-variants.{ShapeRange}
 use Rattle.rules.specs.Bytes.{at, Past}
@@ -16,24 +18,18 @@ use Rattle.laws.proofs.VerdictLaws.{refused-same}
 use Rattle.laws.proofs.ByteLaws.{past-same}
 use Rattle.shape.specs.declared.Shape.{Shape}
 use Rattle.shape.specs.Shapes.{shapeOfBytes}
-use Rattle.network.specs.declared.EachAnswer.{EachAnswer}
-use Rattle.network.specs.declared.EachAnswer.the-variants.{Grades, Refused}
 use Rattle.network.specs.Evaluating.{GradeAt}
-use Rattle.network.specs.EvaluatingEach.{eachAnswer, gradesAfter, eachRows, EvaluatedEach}
+use Rattle.network.specs.EvaluatingEach.{gradesAfter, eachRows, EvaluatedEach}
 use Rattle.network.proofs.EachLaws.{each-grade, each-single, stops-single}
-use Rattle.panel_answers.specs.Answers.{lentShape, lent, callNumber, answerNumber, eachNumber}
+use Rattle.panel_answers.specs.Answers.{lentShape, lent, callNumber, answerNumber, outcomeNumber}
 use Rattle.panel_answers.proofs.ShapeLaws.{Made, called, lent-accepted, ten-lent, made-lent, lent-refused}
+use Rattle.panel_answers.proofs.OutcomeLaws.{outcome-number}
 use Rattle.panel_networks.specs.Evaluates.{evaluateRows}
 use Rattle.panel_networks.specs.EvaluatesEach.{EvaluatesEach}
 
--- the number of a verdict is that of the answer to it
-verdict-number : (v : Verdict (List ℕ)) → eachNumber (eachAnswer v) ≡ callNumber v (λ written. 0)
-verdict-number (accepted bytes) = refl
-verdict-number (refused r) = refl
-
 -- by its number an answer, and a verdict, is a refusal
-keeps : (a : EachAnswer) (work work′ : List ℕ) → ((q : Refusal) → a ≡ Refused q → work′ ≡ work) → 65536 ≤ eachNumber a → work′ ≡ work
-keeps Grades work work′ k h = absurd (omega arith)
+keeps : (a : Outcome) (work work′ : List ℕ) → ((q : Refusal) → a ≡ Refused q → work′ ≡ work) → 65536 ≤ outcomeNumber a → work′ ≡ work
+keeps Written work work′ k h = absurd (omega arith)
 keeps (Refused q) work work′ k h = k q refl
 
 stopped : (v : Verdict (List ℕ)) → 65536 ≤ callNumber v (λ written. 0) → (q : Refusal) × (v ≡ refused q)
@@ -85,11 +81,11 @@ module _ (net bytes visits grades work : List ℕ) where
           kept = kept;
         }
 
-  pub evaluates-each : (x : Shape) (a : EachAnswer) (r : ℕ) (grades′ work′ : List ℕ) → Made bytes x → EvaluatedEach x net visits grades work a grades′ work′ → r ≡ eachNumber a
+  pub evaluates-each : (x : Shape) (a : Outcome) (r : ℕ) (grades′ work′ : List ℕ) → Made bytes x → EvaluatedEach x net visits grades work a grades′ work′ → r ≡ outcomeNumber a
       → EvaluatesEach net bytes visits grades work r grades′ work′
   evaluates-each x a r grades′ work′ made found number =
       let same : rows x ≡ lent bytes rows = made-lent bytes rows made in
-      promised (number ∙ ap eachNumber (found .answer) ∙ verdict-number (rows x) ∙ ap (λ (v : Verdict (List ℕ)). callNumber v (λ written. 0)) same)
+      promised (number ∙ ap outcomeNumber (found .answer) ∙ outcome-number (rows x) ∙ ap (λ (v : Verdict (List ℕ)). callNumber v (λ written. 0)) same)
       (found .grades-after ∙ ap (λ (v : Verdict (List ℕ)). gradesAfter v grades) same)
       (λ h. keeps a work work′ (found .refusal-keeps) (omega arith)) (found .none-keeps) (found .kept)
 

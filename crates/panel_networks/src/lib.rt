@@ -40,7 +40,7 @@ pub fn evaluate_each(
     match Shape::from_bytes(shape) {
         ShapeAnswer::Refused(refusal) => panel_answers::of_refusal(refusal),
         ShapeAnswer::Accepted(shape) => {
-            panel_answers::of_each(network::evaluate_each(network, shape, cells, grades, work))
+            panel_answers::of_outcome(network::evaluate_each(network, shape, cells, grades, work))
         }
     }
 }

@@ -21,8 +21,8 @@ enum-known-shape c = search needs
 join-first-requires : tie.Need-join-first-requires
 join-first-requires c κs = search needs
 
-of-join-requires : tie.Need-of-join-requires
-of-join-requires c κs = search needs
+of-outcome-requires : tie.Need-of-outcome-requires
+of-outcome-requires c κs = search needs
 
 returns : tie.Need-returns
 returns c =
@@ -39,7 +39,7 @@ returns-2 : tie.Need-returns-2
 returns-2 c =
     let a = c .before .before .before .before .before .before .before .before .before .before .before .before .before .before .before .before .before .args in
     let at-shape = c .before .before .before .before .before .before .before .before .before in
-    first-joins (a .gate) (a .shape .now) (a .lower .now) (a .upper .now) (a .s) (a .t) (a .out-lower .now) (a .out-upper .now) (c .of-join .result) _ _ _ _ (made (a .shape .now) (makes-accepted (at-shape .before .before .from-bytes .ensures) (at-shape .shape .given .1))) (c .before .before .before .before .before .join-first .ensures) (c .of-join .ensures)
+    first-joins (a .gate) (a .shape .now) (a .lower .now) (a .upper .now) (a .s) (a .t) (a .out-lower .now) (a .out-upper .now) (c .of-outcome .result) _ _ _ _ (made (a .shape .now) (makes-accepted (at-shape .before .before .from-bytes .ensures) (at-shape .shape .given .1))) (c .before .before .before .before .before .join-first .ensures) (c .of-outcome .ensures)
 
 pub first-spec : {M : Type 1} → statement M
 first-spec =
@@ -50,7 +50,7 @@ first-spec =
     of-refusal-requires
     enum-known-shape
     join-first-requires
-    of-join-requires
+    of-outcome-requires
     returns
     same-length
     same-length-2

@@ -21,8 +21,8 @@ enum-known-shape c = search needs
 join-second-requires : tie.Need-join-second-requires
 join-second-requires c κs = search needs
 
-of-join-requires : tie.Need-of-join-requires
-of-join-requires c κs = search needs
+of-outcome-requires : tie.Need-of-outcome-requires
+of-outcome-requires c κs = search needs
 
 returns : tie.Need-returns
 returns c =
@@ -39,7 +39,7 @@ returns-2 : tie.Need-returns-2
 returns-2 c =
     let a = c .before .before .before .before .before .before .before .before .before .before .before .before .before .before .before .before .before .before .args in
     let at-shape = c .before .before .before .before .before .before .before .before .before in
-    second-joins (a .gate) (a .shape .now) (a .lower .now) (a .upper .now) (a .s) (a .t) (a .g .now) (a .out-lower .now) (a .out-upper .now) (c .of-join .result) _ _ _ _ (made (a .shape .now) (makes-accepted (at-shape .before .before .from-bytes .ensures) (at-shape .shape .given .1))) (c .before .before .before .before .before .join-second .ensures) (c .of-join .ensures)
+    second-joins (a .gate) (a .shape .now) (a .lower .now) (a .upper .now) (a .s) (a .t) (a .g .now) (a .out-lower .now) (a .out-upper .now) (c .of-outcome .result) _ _ _ _ (made (a .shape .now) (makes-accepted (at-shape .before .before .from-bytes .ensures) (at-shape .shape .given .1))) (c .before .before .before .before .before .join-second .ensures) (c .of-outcome .ensures)
 
 pub second-spec : {M : Type 1} → statement M
 second-spec =
@@ -50,7 +50,7 @@ second-spec =
     of-refusal-requires
     enum-known-shape
     join-second-requires
-    of-join-requires
+    of-outcome-requires
     returns
     same-length
     same-length-2

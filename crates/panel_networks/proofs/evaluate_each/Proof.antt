@@ -21,8 +21,8 @@ enum-known-shape c = search needs
 evaluate-each-requires : tie.Need-evaluate-each-requires
 evaluate-each-requires c κs = search needs
 
-of-each-requires : tie.Need-of-each-requires
-of-each-requires c κs = search needs
+of-outcome-requires : tie.Need-of-outcome-requires
+of-outcome-requires c κs = search needs
 
 returns : tie.Need-returns
 returns c =
@@ -39,7 +39,7 @@ returns-2 : tie.Need-returns-2
 returns-2 c =
     let a = c .before .before .before .before .before .before .before .before .before .before .before .before .before .before .before .before .before .args in
     let at-shape = c .before .before .before .before .before .before .before .before .before in
-    evaluates-each (a .network .now) (a .shape .now) (a .cells .now) (a .grades .now) (a .work .now) _ _ (c .of-each .result) _ _ (made (a .shape .now) (makes-accepted (at-shape .before .before .from-bytes .ensures) (at-shape .shape .given .1))) (c .before .before .before .before .before .evaluate-each .ensures) (c .of-each .ensures)
+    evaluates-each (a .network .now) (a .shape .now) (a .cells .now) (a .grades .now) (a .work .now) _ _ (c .of-outcome .result) _ _ (made (a .shape .now) (makes-accepted (at-shape .before .before .from-bytes .ensures) (at-shape .shape .given .1))) (c .before .before .before .before .before .evaluate-each .ensures) (c .of-outcome .ensures)
 
 pub evaluate-each-spec : {M : Type 1} → statement M
 evaluate-each-spec =
@@ -50,7 +50,7 @@ evaluate-each-spec =
     of-refusal-requires
     enum-known-shape
     evaluate-each-requires
-    of-each-requires
+    of-outcome-requires
     returns
     same-length
     same-length-2
