@@ -5,6 +5,7 @@ use mathlib.Core.Bool.{Bool, true, false}
 use mathlib.Core.List.{List, _++_}
 use borrow.Author.Tests.{le-leb, lt-leb}
 use lib.ListN.{length, take, drop}
+use Rattle.rules.specs.declared.Edition.the-variants.{Ours}
 use Rattle.rules.specs.declared.Refusal.{Refusal}
 use Rattle.rules.specs.declared.Refusal.the-variants.{ShortBuffer}
 use Rattle.rules.specs.Refusal.{refusalNumber}
@@ -44,7 +45,7 @@ stopped (accepted s) = (ShortBuffer, refl)
 stopped (refused q) = (q, refl)
 
 -- its number, by the verdict on the file
-pub short-number : (file : List ℕ) (v : Verdict Seen) → v ≡ judgeFile file → callNumber (andThen v short) (λ s. 0) ≡ callNumber (noRoom file) (λ s. 0)
+pub short-number : (file : List ℕ) (v : Verdict Seen) → v ≡ judgeFile Ours file → callNumber (andThen v short) (λ s. 0) ≡ callNumber (noRoom file) (λ s. 0)
 short-number file v e = ap (λ (w : Verdict Seen). callNumber (andThen w short) (λ s. 0)) e
 
 -- the ten bytes that are put before the others
@@ -74,10 +75,10 @@ module _ (file shape lower upper : List ℕ) where
   -- there is no room for the shape
   pub read-short : (r : ℕ) → length shape < 10 → r ≡ callNumber (noRoom file) (λ s. 0) → Reads file shape lower upper r shape lower upper
   read-short r short number =
-      let q = stopped (judgeFile file) in
+      let q = stopped (judgeFile Ours file) in
       by-verdict (refused (q .0)) r shape lower upper
       (ap (λ (b : Bool). andThen judged (λ s. unless b ShortBuffer (accepted s))) (lt-leb 10 (length shape) short)
-      ∙ stops-all (judgeFile file) (fits file lower upper)
+      ∙ stops-all (judgeFile Ours file) (fits file lower upper)
       ∙ q .1)
       (number ∙ ap (λ (v : Verdict Seen). callNumber v (λ s. 0)) (q .1)) refl refl refl (λ s e. refused-accepted e)
 

@@ -4,6 +4,7 @@ use mathlib.Core.Path.{_≡_}
 use mathlib.Core.List.{List, _++_}
 use lib.Dec.{leb}
 use lib.ListN.{length, drop}
+use Rattle.rules.specs.declared.Edition.the-variants.{Ours}
 use Rattle.rules.specs.declared.Refusal.the-variants.{ShortBuffer}
 use Rattle.rules.specs.Limits.{limitsOf}
 use Rattle.rules.specs.Verdict.{Verdict, accepted, refused, unless, andThen}
@@ -18,7 +19,7 @@ readVerdict file shape lower upper = andThen (judgeReading file lower upper) (λ
 
 -- what that is where the shape's buffer is too short, whatever the others are
 abbrev pub noRoom : List ℕ → Verdict Seen
-noRoom file = andThen (judgeFile file) (λ s. refused ShortBuffer)
+noRoom file = andThen (judgeFile Ours file) (λ s. refused ShortBuffer)
 
 -- the shape's buffer after it: ten bytes and what lay behind them, or all as it was
 abbrev pub shapeAfter : Verdict Seen → List ℕ → List ℕ

@@ -6,6 +6,7 @@ ghost use lib.ListN.{length, drop};
 ghost use Rattle.shape.specs.Shapes.{shapeBytes};
 ghost use Rattle.panel_answers.specs.Answers.{callNumber};
 ghost use Rattle.panel_reads.specs.Reads.{noRoom, Reads};
+use rules::Edition;
 use rules::Refusal;
 use shape::Shape;
 use table_file::TableAnswer;
@@ -16,7 +17,7 @@ use tables::fill;
 fn no_room(file: &[u8]) -> u32
     ensures { λ r. ⌜ r ≡ callNumber (noRoom (now (file .entry))) (λ s. 0) ⌝ }
 {
-    match table_file::judge(file) {
+    match table_file::judge(file, Edition::Ours) {
         Judged::Refused(refusal) => panel_answers::of_refusal(refusal),
         Judged::Accepted(_) => panel_answers::of_refusal(Refusal::ShortBuffer),
     }

@@ -5,6 +5,7 @@ use mathlib.Core.List.{List, _++_}
 use mathlib.Core.Logic.{⊎-elim}
 use native.Mathlib.Omega.{arith}
 use lib.ListN.{length, replicate, length-replicate, getD-replicate, List·getD-append}
+use Rattle.rules.specs.declared.Edition.the-variants.{Ours}
 use Rattle.rules.specs.Bytes.{at, recordAt}
 use Rattle.rules.specs.Cell.{cells}
 use Rattle.rules.specs.Shape.{places}
@@ -30,7 +31,7 @@ module _ (file ks : List ℕ) (j x : ℕ) where
     pub untouched : Untouched file ks c 0 (length file / 16) → at limit c ≡ x
     untouched u = u .stays j (replicate (cells ks) x) ∙ getD-replicate (cells ks) c x 0 h
 
-module _ (file : List ℕ) (s : Seen) (a : Accepted file s) where
+module _ (file : List ℕ) (s : Seen) (a : Accepted Ours file s) where
   abbrev ks : List ℕ
   ks = places (s .cards)
 

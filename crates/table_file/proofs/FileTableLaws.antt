@@ -9,8 +9,9 @@ use borrow.Author.Tests.{le-leb}
 use lib.Dec.{T, not-T, leb, ltb, eqb, le→leb, lt→ltb, ltb→lt, nltb→le, eqb-refl}
 use lib.ListN.{length, take, drop, length-append}
 use lib.Seq.{take-at}
+use Rattle.rules.specs.declared.Edition.the-variants.{Ours}
 use Rattle.rules.specs.declared.Refusal.the-variants.{ShapeRange, ShortBuffer, GradeLimits}
-use Rattle.rules.specs.Bytes.{at, all}
+use Rattle.rules.specs.Bytes.{at, all, recordAt}
 use Rattle.rules.specs.Cell.{cells}
 use Rattle.rules.specs.Limits.{limitsSound, limitsOf}
 use Rattle.rules.specs.Shape.{maxConditions, maxCardinality, maxGrades, placeSound, places, shapeSound}
@@ -26,10 +27,10 @@ use Rattle.shape.specs.declared.Shape.{Shape}
 use Rattle.shape.specs.Shapes.{cardsOf, placesOf, shapeFrom}
 use Rattle.shape.proofs.ShapeLaws.{cards-from}
 use Rattle.table_file.proofs.ListedLaws.{laid-at}
-use Rattle.table_file.proofs.FileLaws.{Accepted}
+use Rattle.table_file.proofs.FileLaws.{Accepted, limits-in}
 use Rattle.table_file.proofs.AsListedLaws.{limit-long, by-record, untouched}
 
-module _ (file : List ℕ) (s : Seen) (a : Accepted file s) where
+module _ (file : List ℕ) (s : Seen) (a : Accepted Ours file s) where
   some : (2 ≤ s .m) × (s .m ≤ 16)
   some = a .kept .grades (a .grades)
 
@@ -54,7 +55,7 @@ module _ (file : List ℕ) (s : Seen) (a : Accepted file s) where
   in-order c h =
       ⊎-elim
       (λ b.
-      let l = a .limits (b .last) (omega (arith, b .to)) (b .names .0) in
+      let l = limits-in (s .m) (recordAt file (b .last)) (a .cells (b .last) (omega (arith, b .to)) .sound (b .names .0)) in
       let low = by-record file ks 1 (unlistedLower s) c h b in
       let high = by-record file ks 2 (unlistedUpper s) c h b in
       (omega (arith, l .0, low, high), omega (arith, l .1, high)))

@@ -6,6 +6,7 @@ use mathlib.Core.List.{List}
 use native.Mathlib.Omega.{arith}
 use lib.Dec.{leb}
 use lib.ListN.{length, drop}
+use Rattle.rules.specs.declared.Edition.the-variants.{Ours}
 use Rattle.rules.specs.declared.Refusal.{Refusal}
 use Rattle.rules.specs.declared.Refusal.the-variants.{ShortBuffer}
 use Rattle.rules.specs.Cell.{cells}
@@ -44,11 +45,11 @@ module _ (file lower upper : List ℕ) where
   fits s = leb (cells (places (s .cards))) (length lower) && leb (cells (places (s .cards))) (length upper)
 
   -- an accepted call: its file is accepted, and what is written is as that lists
-  pub file-judged : {s : Seen} → judgeReading file (length lower) (length upper) ≡ accepted s → judgeFile file ≡ accepted s
-  file-judged e = last-passed (judgeFile file) fits ShortBuffer e
+  pub file-judged : {s : Seen} → judgeReading file (length lower) (length upper) ≡ accepted s → judgeFile Ours file ≡ accepted s
+  file-judged e = last-passed (judgeFile Ours file) fits ShortBuffer e
 
   written : (s : Seen) → judgeReading file (length lower) (length upper) ≡ accepted s → AsListed file s (limitsOf (lowerAfter file (accepted s) lower) (upperAfter file (accepted s) upper))
-  written s e = as-listed file s (accepted-file file s (file-judged e)) (drop (cells (places (s .cards))) lower) (drop (cells (places (s .cards))) upper)
+  written s e = as-listed file s (accepted-file Ours file s (file-judged e)) (drop (cells (places (s .cards))) lower) (drop (cells (places (s .cards))) upper)
 
   by-verdict : (v : Verdict Seen) → judgeReading file (length lower) (length upper) ≡ v → Read file lower upper (readAnswer v) (lowerAfter file v lower) (upperAfter file v upper)
   by-verdict v e =
@@ -61,10 +62,10 @@ module _ (file lower upper : List ℕ) where
       }
 
   -- the file is refused
-  pub read-refused : (q : Refusal) → judgeFile file ≡ refused q → Read file lower upper (Refused q) lower upper
+  pub read-refused : (q : Refusal) → judgeFile Ours file ≡ refused q → Read file lower upper (Refused q) lower upper
   read-refused q e = by-verdict (refused q) (ap (λ (v : Verdict Seen). andThen v (λ s. unless (fits s) ShortBuffer (accepted s))) e)
 
-  module _ (s : Seen) (e : judgeFile file ≡ accepted s) where
+  module _ (s : Seen) (e : judgeFile Ours file ≡ accepted s) where
     with-room : (b : Bool) → fits s ≡ b → judgeReading file (length lower) (length upper) ≡ unless b ShortBuffer (accepted s)
     with-room b r =
         ap (λ (v : Verdict Seen). andThen v (λ s. unless (fits s) ShortBuffer (accepted s))) e

@@ -7,16 +7,20 @@ use mathlib.Core.Logic.{⊎-elim}
 use native.Mathlib.Nat.{mul-assoc, mul-comm, one-mul, not-suc-le-zero, le-of-suc-le-suc, eq-or-lt-of-le}
 use native.Mathlib.Numerals.{add-one}
 use native.Mathlib.Omega.{arith}
+use borrow.Author.Tests.{eq-eqb, ne-eqb}
 use lib.Dec.{T, T-not, eqb→eq, leb, ltb, eqb, leb→le, ltb→lt}
 use lib.ListN.{length, set, replicate, length-set}
 use lib.Seq.{getD-set-same, getD-set-other}
+use Rattle.rules.specs.declared.Edition.{Edition}
+use Rattle.rules.specs.declared.Edition.the-variants.{Ours, Spreadsheet}
 use Rattle.rules.specs.declared.Refusal.{Refusal}
-use Rattle.rules.specs.declared.Refusal.the-variants.{RecordBytes, RecordOrder, ShapeRange, GradeLimits, CellValues}
+use Rattle.rules.specs.declared.Refusal.the-variants.{RecordBytes, RecordOrder, ShapeRange, CellValues}
 use Rattle.rules.specs.Bytes.{at, all, recordAt, zeros}
 use Rattle.rules.specs.Cell.{cells, card}
 use Rattle.rules.specs.Shape.{places}
 use Rattle.rules.specs.Verdict.{Verdict, accepted, refused, unless, andThen, granted, answerOf}
-use Rattle.rules.specs.TableFile.{Seen, start, conditionRecord, gradesRecord, cellRecord, listedCell, tableRecord, tableRecords}
+use Rattle.rules.specs.TableFile.{Seen, start, conditionRecord, gradesRecord, cellKind, spareByte, cellClear, cellSound, cellRefusal, cellRecord, listedCell, tableRecord, tableRecords}
+use Rattle.rules.specs.Editions.{other}
 use Rattle.laws.proofs.TestLaws.{and-l, and-r, cond-ok}
 use Rattle.laws.proofs.TableLaws.{all-at}
 use Rattle.shape.specs.declared.Shape.{Shape}
@@ -49,27 +53,44 @@ module _ (s : Seen) (r : List ℕ) where
       → gradesRecord s r ≡ unless a RecordBytes (unless b RecordOrder (unless c ShapeRange (accepted (record { n = s .n; cards = s .cards; m = at r 1; next = s .next }))))
   grades-by a b c p q t = cc
 
-  pub cell-by : (a b c d : Bool) → (zeros r 3 8 && zeros r (8 + s .n) 16) ≡ a → eqb (s .m) 0 ≡ b
+  pub cell-by : (e : Edition) (a b c d : Bool) → (cellClear e r && zeros r (8 + s .n) 16) ≡ a → eqb (s .m) 0 ≡ b
       → (all 8 (λ i. ltb (at r (8 + i)) (card (places (s .cards)) i)) && leb (s .next) (listedCell (places (s .cards)) r)) ≡ c
-      → (leb (at r 1) (at r 2) && ltb (at r 2) (s .m)) ≡ d
-      → cellRecord s r
-      ≡ unless a RecordBytes (unless (not b) RecordOrder (unless c CellValues (unless d GradeLimits (accepted (record { n = s .n; cards = s .cards; m = s .m; next = listedCell (places (s .cards)) r + 1 })))))
-  cell-by a b c d p q t u = cc
+      → cellSound e (s .m) r ≡ d
+      → cellRecord e s r
+      ≡ unless a RecordBytes (unless (not b) RecordOrder (unless c CellValues (unless d (cellRefusal e) (accepted (record { n = s .n; cards = s .cards; m = s .m; next = listedCell (places (s .cards)) r + 1 })))))
+  cell-by e a b c d p q t u = cc
 
-  pub record-by : (a b c : Bool) → eqb (at r 0) 1 ≡ a → eqb (at r 0) 2 ≡ b → eqb (at r 0) 3 ≡ c
-      → tableRecord s r ≡ cond a (conditionRecord s r) (cond b (gradesRecord s r) (cond c (cellRecord s r) (refused RecordBytes)))
-  record-by a b c p q t = cc
+  pub record-by : (e : Edition) (a b c : Bool) → eqb (at r 0) 1 ≡ a → eqb (at r 0) 2 ≡ b → eqb (at r 0) (cellKind e) ≡ c
+      → tableRecord e s r ≡ cond a (conditionRecord s r) (cond b (gradesRecord s r) (cond c (cellRecord e s r) (refused RecordBytes)))
+  record-by e a b c p q t = cc
+
+-- the kinds of cell records come after the others, and no kind is in both editions
+pub late-kind : (e : Edition) → 3 ≤ cellKind e
+late-kind Ours = omega arith
+late-kind Spreadsheet = omega arith
+
+pub as-cell : (e : Edition) (s : Seen) (r : List ℕ) → at r 0 ≡ cellKind e → tableRecord e s r ≡ cellRecord e s r
+as-cell e s r q = record-by s r e false false true (ne-eqb (at r 0) 1 (λ z. omega (arith, late-kind e))) (ne-eqb (at r 0) 2 (λ z. omega (arith, late-kind e))) (eq-eqb (at r 0) (cellKind e) q)
+
+two-kinds : (e : Edition) → cellKind e ≡ cellKind (other e) → ⊥
+two-kinds Ours q = omega arith
+two-kinds Spreadsheet q = omega arith
+
+-- the spare byte is before the values
+pub spare-early : (e : Edition) → spareByte e < 4
+spare-early Ours = omega arith
+spare-early Spreadsheet = omega arith
 
 -- the first of n records left: refused, or the rest of them
-pub records-next : (file : List ℕ) (k n : ℕ) (s : Seen) → k < n
-    → tableRecords file k (n - k) s ≡ andThen (tableRecord s (recordAt file k)) (tableRecords file (k + 1) (n - (k + 1)))
-records-next file k n s h =
-    let e : n - k ≡ suc (n - (k + 1)) = omega arith in
-    let f : suc k ≡ k + 1 = omega arith in
-    ap (λ (i : ℕ). tableRecords file k i s) e ∙ ap (λ (i : ℕ). andThen (tableRecord s (recordAt file k)) (tableRecords file i (n - (k + 1)))) f
+module _ (e : Edition) (file : List ℕ) (k n : ℕ) (s : Seen) where
+  pub records-next : k < n → tableRecords e file k (n - k) s ≡ andThen (tableRecord e s (recordAt file k)) (tableRecords e file (k + 1) (n - (k + 1)))
+  records-next h =
+      let q : n - k ≡ suc (n - (k + 1)) = omega arith in
+      let f : suc k ≡ k + 1 = omega arith in
+      ap (λ (i : ℕ). tableRecords e file k i s) q ∙ ap (λ (i : ℕ). andThen (tableRecord e s (recordAt file k)) (tableRecords e file i (n - (k + 1)))) f
 
-pub records-end : (file : List ℕ) (k n : ℕ) (s : Seen) → n ≤ k → tableRecords file k (n - k) s ≡ unless (not (eqb (s .m) 0)) RecordOrder (accepted s)
-records-end file k n s h = let e : n - k ≡ 0 = omega arith in ap (λ (i : ℕ). tableRecords file k i s) e
+  pub records-end : n ≤ k → tableRecords e file k (n - k) s ≡ unless (not (eqb (s .m) 0)) RecordOrder (accepted s)
+  records-end h = let q : n - k ≡ 0 = omega arith in ap (λ (i : ℕ). tableRecords e file k i s) q
 
 -- one condition more multiplies the cells
 places-set : (cards : List ℕ) (n k : ℕ) → n < length cards → at cards n ≡ 0 → 1 ≤ k → cells (places (set cards n k)) ≡ cells (places cards) * k
@@ -106,17 +127,20 @@ row-of : (P : Seen → Type 0) (b : Bool) (q : Refusal) (v : Verdict Seen) → (
 row-of P true q v h = h tt
 row-of P false q v h = tt
 
--- what one accepted record adds: conditions only before there are grades; a cell record comes after, and names a cell above those before
-pub record Step (s : Seen) (r : List ℕ) (t : Seen) : Type 0 where
+-- what one accepted record adds: conditions only before there are grades; a cell record comes after, is as its edition asks, and names a
+-- cell above those before
+pub record Step (e : Edition) (s : Seen) (r : List ℕ) (t : Seen) : Type 0 where
   pub kept : InRange t
   pub settled : (s .m ≡ 0 → ⊥) → (t .cards ≡ s .cards) × (t .m ≡ 0 → ⊥)
   pub same-grades : (s .m ≡ 0 → ⊥) → t .m ≡ s .m
-  pub cell : at r 0 ≡ 3 → (s .m ≡ 0 → ⊥) × ((i : ℕ) → i < 8 → at r (8 + i) < card (places (s .cards)) i)
-  pub limits : at r 0 ≡ 3 → (at r 1 ≤ at r 2) × (at r 2 < s .m)
-  pub after : at r 0 ≡ 3 → (s .next ≤ listedCell (places (s .cards)) r) × (t .next ≡ listedCell (places (s .cards)) r + 1)
+  pub known : at r 0 ≡ cellKind (other e) → ⊥
+  pub cell : at r 0 ≡ cellKind e → (s .m ≡ 0 → ⊥) × ((i : ℕ) → i < 8 → at r (8 + i) < card (places (s .cards)) i)
+  pub clear : at r 0 ≡ cellKind e → T (cellClear e r)
+  pub sound : at r 0 ≡ cellKind e → T (cellSound e (s .m) r)
+  pub after : at r 0 ≡ cellKind e → (s .next ≤ listedCell (places (s .cards)) r) × (t .next ≡ listedCell (places (s .cards)) r + 1)
   pub grows : s .next ≤ t .next
 
-module _ (s : Seen) (r : List ℕ) (k : InRange s) where
+module _ (e : Edition) (s : Seen) (r : List ℕ) (k : InRange s) where
   kept-same : (m next : ℕ) → ((m ≡ 0 → ⊥) → (2 ≤ m) × (m ≤ 16)) → InRange (record { n = s .n; cards = s .cards; m = m; next = next })
   kept-same m next g = record { eight = k .eight; conditions = k .conditions; few = k .few; here = k .here; beyond = k .beyond; grades = g }
 
@@ -153,20 +177,22 @@ module _ (s : Seen) (r : List ℕ) (k : InRange s) where
           subst (λ (q : ℕ). (2 ≤ q) × (q ≤ 8)) (sym e) (two, leb→le (at r 2) 8 (and-r (leb 2 (at r 2)) (leb (at r 2) 8) in-range))
 
   -- a record of kind i, which is no cell, before there are grades
-  early-step : (i : ℕ) (t : Seen) → i < 3 → T (eqb (at r 0) i) → T (eqb (s .m) 0) → t .next ≡ s .next → InRange t → Step s r t
-  early-step i t h e z same kt =
+  early-step : (i : ℕ) (t : Seen) → i < 3 → T (eqb (at r 0) i) → T (eqb (s .m) 0) → t .next ≡ s .next → InRange t → Step e s r t
+  early-step i t h y z same kt =
       record {
         kept = kt;
         settled = λ n. absurd (n (eqb→eq (s .m) 0 z));
         same-grades = λ n. absurd (n (eqb→eq (s .m) 0 z));
-        cell = λ c. absurd (no-cell c);
-        limits = λ c. absurd (no-cell c);
-        after = λ c. absurd (no-cell c);
+        known = no-cell (other e);
+        cell = λ c. absurd (no-cell e c);
+        clear = λ c. absurd (no-cell e c);
+        sound = λ c. absurd (no-cell e c);
+        after = λ c. absurd (no-cell e c);
         grows = omega (arith, same);
       }
     where
-      no-cell : at r 0 ≡ 3 → ⊥
-      no-cell c = omega (arith, eqb→eq (at r 0) i e)
+      no-cell : (f : Edition) → at r 0 ≡ cellKind f → ⊥
+      no-cell f c = omega (arith, eqb→eq (at r 0) i y, late-kind f)
 
   abbrev values : Bool
   values = all 8 (λ i. ltb (at r (8 + i)) (card (places (s .cards)) i))
@@ -174,47 +200,50 @@ module _ (s : Seen) (r : List ℕ) (k : InRange s) where
   abbrev rises : Bool
   rises = leb (s .next) (listedCell (places (s .cards)) r)
 
-  cell-step : T (not (eqb (s .m) 0)) → T (values && rises) → T (leb (at r 1) (at r 2) && ltb (at r 2) (s .m)) → Step s r (record { n = s .n; cards = s .cards; m = s .m; next = listedCell (places (s .cards)) r + 1 })
-  cell-step z v d =
+  cell-step : T (eqb (at r 0) (cellKind e)) → T (cellClear e r && zeros r (8 + s .n) 16) → T (not (eqb (s .m) 0)) → T (values && rises) → T (cellSound e (s .m) r)
+      → Step e s r (record { n = s .n; cards = s .cards; m = s .m; next = listedCell (places (s .cards)) r + 1 })
+  cell-step y b z v d =
       record {
         kept = kept-same (s .m) _ (k .grades);
         settled = λ n. (refl, n);
         same-grades = λ n. refl;
-        limits = λ e. (leb→le _ _ (and-l (leb (at r 1) (at r 2)) (ltb (at r 2) (s .m)) d), ltb→lt _ _ (and-r (leb (at r 1) (at r 2)) (ltb (at r 2) (s .m)) d));
-        cell = λ e. (
+        known = λ q. two-kinds e (sym (eqb→eq (at r 0) (cellKind e) y) ∙ q);
+        cell = λ _. (
           (λ q. T-not (eqb (s .m) 0) z (subst (λ (n : ℕ). T (eqb n 0)) (sym q) tt)),
           (λ i h. ltb→lt _ _ (all-at 8 (λ i. ltb (at r (8 + i)) (card (places (s .cards)) i)) (and-l values rises v) i h)),
         );
-        after = λ e. (above, refl);
+        clear = λ _. and-l (cellClear e r) (zeros r (8 + s .n) 16) b;
+        sound = λ _. d;
+        after = λ _. (above, refl);
         grows = omega (arith, above);
       }
     where
       above : s .next ≤ listedCell (places (s .cards)) r
       above = leb→le _ _ (and-r values rises v)
 
-  step-of : Of (Step s r) (tableRecord s r)
+  step-of : Of (Step e s r) (tableRecord e s r)
   step-of =
-      cond-ok (Of (Step s r)) (eqb (at r 0) 1) (conditionRecord s r) _
-      (λ e.
-      row-of (Step s r) (zeros r 3 16) _ _
+      cond-ok (Of (Step e s r)) (eqb (at r 0) 1) (conditionRecord s r) _
+      (λ y.
+      row-of (Step e s r) (zeros r 3 16) _ _
       (λ a.
-      row-of (Step s r) (eqb (s .m) 0 && eqb (at r 1) (s .n)) _ _
-      (λ b. row-of (Step s r) one-more _ _ (λ c. early-step 1 _ (omega arith) e (and-l (eqb (s .m) 0) _ b) refl (kept-more c)))))
+      row-of (Step e s r) (eqb (s .m) 0 && eqb (at r 1) (s .n)) _ _
+      (λ b. row-of (Step e s r) one-more _ _ (λ c. early-step 1 _ (omega arith) y (and-l (eqb (s .m) 0) _ b) refl (kept-more c)))))
       (λ n.
-      cond-ok (Of (Step s r)) (eqb (at r 0) 2) (gradesRecord s r) _
-      (λ e.
-      row-of (Step s r) (zeros r 2 16) _ _
+      cond-ok (Of (Step e s r)) (eqb (at r 0) 2) (gradesRecord s r) _
+      (λ y.
+      row-of (Step e s r) (zeros r 2 16) _ _
       (λ a.
-      row-of (Step s r) (eqb (s .m) 0) _ _
-      (λ b. row-of (Step s r) (leb 2 (at r 1) && leb (at r 1) 16) _ _ (λ c. early-step 2 _ (omega arith) e b refl (kept-same (at r 1) (s .next) (λ n. (leb→le 2 (at r 1) (and-l (leb 2 (at r 1)) (leb (at r 1) 16) c), leb→le (at r 1) 16 (and-r (leb 2 (at r 1)) (leb (at r 1) 16) c))))))))
+      row-of (Step e s r) (eqb (s .m) 0) _ _
+      (λ b. row-of (Step e s r) (leb 2 (at r 1) && leb (at r 1) 16) _ _ (λ c. early-step 2 _ (omega arith) y b refl (kept-same (at r 1) (s .next) (λ n. (leb→le 2 (at r 1) (and-l (leb 2 (at r 1)) (leb (at r 1) 16) c), leb→le (at r 1) 16 (and-r (leb 2 (at r 1)) (leb (at r 1) 16) c))))))))
       (λ n.
-      cond-ok (Of (Step s r)) (eqb (at r 0) 3) (cellRecord s r) (refused RecordBytes)
-      (λ e.
-      row-of (Step s r) (zeros r 3 8 && zeros r (8 + s .n) 16) _ _
+      cond-ok (Of (Step e s r)) (eqb (at r 0) (cellKind e)) (cellRecord e s r) (refused RecordBytes)
+      (λ y.
+      row-of (Step e s r) (cellClear e r && zeros r (8 + s .n) 16) _ _
       (λ a.
-      row-of (Step s r) (not (eqb (s .m) 0)) _ _
-      (λ b. row-of (Step s r) (values && rises) _ _ (λ c. row-of (Step s r) (leb (at r 1) (at r 2) && ltb (at r 2) (s .m)) _ _ (λ d. cell-step b c d)))))
+      row-of (Step e s r) (not (eqb (s .m) 0)) _ _
+      (λ b. row-of (Step e s r) (values && rises) _ _ (λ c. row-of (Step e s r) (cellSound e (s .m) r) _ _ (λ d. cell-step y a b c d)))))
       (λ n. tt)))
 
-  pub accepted-step : (t : Seen) → tableRecord s r ≡ accepted t → Step s r t
-  accepted-step t e = subst (Of (Step s r)) e step-of
+  pub accepted-step : (t : Seen) → tableRecord e s r ≡ accepted t → Step e s r t
+  accepted-step t q = subst (Of (Step e s r)) q step-of

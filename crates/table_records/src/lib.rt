@@ -1,4 +1,5 @@
-// The records of a table file, judged by 01's rows.
+// The records of a table file, judged by 01's rows. The two editions of files differ in their cell
+// records alone.
 ghost use mathlib.Core.Path.{_≡_};
 ghost use mathlib.Core.Bool.{_&&_};
 ghost use Prim.Native.Nat.{_+_, _*_, _/_, _≤_, _<_};
@@ -6,9 +7,10 @@ ghost use lib.Dec.{leb, ltb, eqb};
 ghost use lib.ListN.{length, set};
 ghost use Rattle.rules.specs.Bytes.{at, all, zeros};
 ghost use Rattle.rules.specs.Cell.{cells, card};
-ghost use Rattle.rules.specs.TableFile.{conditionRecord, gradesRecord, cellRecord, tableRecord, tableRecords, start};
+ghost use Rattle.rules.specs.TableFile.{conditionRecord, gradesRecord, cellKind, spareByte, cellClear, cellSound, cellRefusal, cellRecord, tableRecord, tableRecords, start};
 ghost use Rattle.shape.specs.Shapes.{cardsOf, placesOf, shapeFrom};
 ghost use Rattle.table_records.specs.Records.{seenOf, verdictOf, InRange};
+use rules::Edition;
 use rules::PLACES;
 use rules::RECORD;
 use rules::Refusal;
@@ -152,12 +154,50 @@ fn values_below(ks: [u8; PLACES], r: &[u8]) -> bool
     true
 }
 
-// The bytes of a cell record that must be zero, when n conditions were read.
-fn cell_zeros(n: u8, r: &[u8]) -> bool
-    requires { ⌜ (n ≤ 8) × (length (now r) ≡ 16) ⌝ }
-    ensures { λ q. ⌜ q ≡ (zeros (now (r .entry)) 3 8 && zeros (now (r .entry)) (8 + n) 16) ⌝ }
+// A number of two bytes, the low byte first.
+pub fn word(low: u8, high: u8) -> u16
+    ensures { λ n. ⌜ n ≡ low + 256 * high ⌝ }
 {
-    if !zero_between(r, 3, 8) {
+    low as u16 + 256 * (high as u16)
+}
+
+// Whether bytes 4 to 7 are zero: one number, which takes one load.
+fn middle_zero(r: &[u8]) -> bool
+    requires { ⌜ length (now r) ≡ 16 ⌝ }
+    ensures { λ q. ⌜ q ≡ zeros (now (r .entry)) 4 8 ⌝ }
+{
+    let low = word(r[4], r[5]) as u32;
+    let high = word(r[6], r[7]) as u32;
+    low + 65536 * high == 0
+}
+
+// The byte of a cell record that has no meaning in an edition, beside those.
+fn spare_byte(edition: Edition) -> usize
+    ensures { λ j. ⌜ j ≡ spareByte edition ⌝ }
+{
+    match edition {
+        Edition::Ours => 3,
+        Edition::Spreadsheet => 1,
+    }
+}
+
+// The bytes of a cell record before its values that must be zero.
+fn cell_clear(r: &[u8], edition: Edition) -> bool
+    requires { ⌜ length (now r) ≡ 16 ⌝ }
+    ensures { λ q. ⌜ q ≡ cellClear edition (now (r .entry)) ⌝ }
+{
+    if r[spare_byte(edition)] != 0 {
+        return false;
+    }
+    middle_zero(r)
+}
+
+// All of its bytes that must be zero, when n conditions were read.
+fn cell_zeros(n: u8, r: &[u8], edition: Edition) -> bool
+    requires { ⌜ (n ≤ 8) × (length (now r) ≡ 16) ⌝ }
+    ensures { λ q. ⌜ q ≡ (cellClear edition (now (r .entry)) && zeros (now (r .entry)) (8 + n) 16) ⌝ }
+{
+    if !cell_clear(r, edition) {
         return false;
     }
     zero_between(r, 8 + (n as usize), RECORD)
@@ -169,12 +209,33 @@ fn limits_in_order(lower: u8, upper: u8, m: u8) -> bool
     lower <= upper && upper < m
 }
 
-fn cell(s: Seen, r: &[u8]) -> Judged
+// What an edition asks of a cell's limits, or of its set of grades.
+fn cell_sound(m: u8, r: &[u8], edition: Edition) -> bool
+    requires { ⌜ length (now r) ≡ 16 ⌝ }
+    ensures { λ q. ⌜ q ≡ cellSound edition m (now (r .entry)) ⌝ }
+{
+    match edition {
+        Edition::Ours => limits_in_order(r[1], r[2], m),
+        Edition::Spreadsheet => grade_sets::is_sound(word(r[2], r[3]), m),
+    }
+}
+
+// The refusal of a cell whose grades are not so.
+fn cell_refusal(edition: Edition) -> Refusal
+    ensures { λ q. ⌜ q ≡ cellRefusal edition ⌝ }
+{
+    match edition {
+        Edition::Ours => Refusal::GradeLimits,
+        Edition::Spreadsheet => Refusal::GradeSet,
+    }
+}
+
+fn cell(s: Seen, r: &[u8], edition: Edition) -> Judged
     requires { ⌜ InRange (seenOf s) × (length (now r) ≡ 16) ⌝ }
-    ensures { λ q. ⌜ verdictOf q ≡ cellRecord (seenOf s) (now (r .entry)) ⌝ }
+    ensures { λ q. ⌜ verdictOf q ≡ cellRecord edition (seenOf s) (now (r .entry)) ⌝ }
 {
     let shape = s.shape;
-    if !cell_zeros(shape.n, r) {
+    if !cell_zeros(shape.n, r, edition) {
         return Judged::Refused(Refusal::RecordBytes);
     }
     if shape.m == 0 {
@@ -188,8 +249,8 @@ fn cell(s: Seen, r: &[u8]) -> Judged
     if number < s.next {
         return Judged::Refused(Refusal::CellValues);
     }
-    if !limits_in_order(r[1], r[2], shape.m) {
-        return Judged::Refused(Refusal::GradeLimits);
+    if !cell_sound(shape.m, r, edition) {
+        return Judged::Refused(cell_refusal(edition));
     }
     Judged::Accepted(Seen {
         shape,
@@ -197,15 +258,28 @@ fn cell(s: Seen, r: &[u8]) -> Judged
     })
 }
 
-fn judge_record(s: Seen, r: &[u8]) -> Judged
+// The kind of an edition's cell records.
+pub fn cell_kind(edition: Edition) -> u8
+    ensures { λ k. ⌜ k ≡ cellKind edition ⌝ }
+{
+    match edition {
+        Edition::Ours => kinds::CELL,
+        Edition::Spreadsheet => kinds::CELL_SET,
+    }
+}
+
+// Most records are cells. The cell kind of the other edition is as unknown as any.
+fn judge_record(s: Seen, r: &[u8], edition: Edition) -> Judged
     requires { ⌜ InRange (seenOf s) × (length (now r) ≡ 16) ⌝ }
-    ensures { λ q. ⌜ verdictOf q ≡ tableRecord (seenOf s) (now (r .entry)) ⌝ }
+    ensures { λ q. ⌜ verdictOf q ≡ tableRecord edition (seenOf s) (now (r .entry)) ⌝ }
 {
     let kind = r[0];
+    if kind == cell_kind(edition) {
+        return cell(s, r, edition);
+    }
     match kind {
         kinds::CONDITION => condition(s, r),
         kinds::GRADES => grades(s, r),
-        kinds::CELL => cell(s, r),
         _ => Judged::Refused(Refusal::RecordBytes),
     }
 }
@@ -230,16 +304,16 @@ fn first_seen() -> Seen
     }
 }
 
-// The verdict on all records of a file, one after the other.
-pub fn records(file: &[u8]) -> Judged
-    ensures { λ q. ⌜ verdictOf q ≡ tableRecords (now (file .entry)) 0 (length (now (file .entry)) / 16) start ⌝ }
+// The verdict on all records of a file of an edition, one after the other.
+pub fn records(file: &[u8], edition: Edition) -> Judged
+    ensures { λ q. ⌜ verdictOf q ≡ tableRecords edition (now (file .entry)) 0 (length (now (file .entry)) / 16) start ⌝ }
 {
     let count = file.len() / RECORD;
     let mut s = first_seen();
     for k in 0..count {
         let a = RECORD * k;
         let b = a + RECORD;
-        match judge_record(s, &file[a..b]) {
+        match judge_record(s, &file[a..b], edition) {
             Judged::Accepted(t) => {
                 s = t;
             }

@@ -6,6 +6,7 @@ use native.Mathlib.Omega.{arith}
 use lib.ListN.{length, drop}
 use lib.Dec.{leb}
 use borrow.Author.Tests.{lt-leb, le-leb}
+use Rattle.rules.specs.declared.Edition.the-variants.{Ours}
 use Rattle.rules.specs.Cell.{cells}
 use Rattle.rules.specs.Verdict.{accepted}
 use Rattle.rules.specs.TableFile.{judgeFile}
@@ -41,7 +42,7 @@ laid-limits file ks j x to = limit file ks j x ++ drop (cells ks) to
 abbrev shape-of : tie.After-seen → Shape
 shape-of c = c .seen .given .0 .0 .shape
 
-file-verdict : (c : tie.After-seen) → judgeFile (c .before .before .before .before .before .before .args .file .now) ≡ accepted (seenOf (c .seen .given .0 .0))
+file-verdict : (c : tie.After-seen) → judgeFile Ours (c .before .before .before .before .before .before .args .file .now) ≡ accepted (seenOf (c .seen .given .0 .0))
 file-verdict c = sym (c .before .before .judge .ensures .answer) ∙ ap verdictOf (c .seen .given .1)
 
 returns : tie.Need-returns
@@ -61,21 +62,15 @@ places-requires c κs = search needs
 sub-top : tie.Need-sub-top
 sub-top c =
     let m = shape-of (c .before .before .before .before .before .before .before) .m in
-    by-order 1 m (λ h. h) (λ h. absurd (accepted-file (c .before .before .before .before .before .before .before .before .before .before .before .before .before .args .file .now) _ (file-verdict (c .before .before .before .before .before .before .before)) .grades (omega arith)))
+    by-order 1 m (λ h. h) (λ h. absurd (accepted-file Ours (c .before .before .before .before .before .before .before .before .before .before .before .before .before .args .file .now) _ (file-verdict (c .before .before .before .before .before .before .before)) .grades (omega arith)))
 
 write-limits-requires : tie.Need-write-limits-requires
 write-limits-requires c κs =
-    let a = c .before .before .before .before .before .before .before .before .before .before .before .before .before .before .args in
-    let s = shape-of (c .before .before .before .before .before .before .before .before) in
-    let f = accepted-file (a .file .now) _ (file-verdict (c .before .before .before .before .before .before .before .before)) in
-    rw (c .before .before .places .ensures) (shape-positive s, f .kept .few, omega (arith, c .before .before .before .before .before .cells .ensures, c .before .before .before .before .if1 .left), search needs, f .short, f .listed)
-
-write-limits-requires-2 : tie.Need-write-limits-requires-2
-write-limits-requires-2 c κs =
-    let a = c .before .before .before .before .before .before .before .before .before .before .before .before .before .before .before .before .before .before .args in
-    let s = shape-of (c .before .before .before .before .before .before .before .before .before .before .before .before) in
-    let f = accepted-file (a .file .now) _ (file-verdict (c .before .before .before .before .before .before .before .before .before .before .before .before)) in
-    rw (c .before .before .before .before .before .before .places .ensures) (shape-positive s, f .kept .few, omega (arith, c .before .before .before .before .before .before .before .before .before .cells .ensures, c .before .before .before .before .before .before .before .if2 .left), search needs, f .short, f .listed)
+    let a = c .before .before .before .before .before .before .before .before .before .before .before .before .before .before .before .args in
+    let s = shape-of (c .before .before .before .before .before .before .before .before .before) in
+    let f = accepted-file Ours (a .file .now) _ (file-verdict (c .before .before .before .before .before .before .before .before .before)) in
+    let n = c .before .before .before .before .before .before .cells .ensures in
+    rw (c .before .before .before .places .ensures) (shape-positive s, f .kept .few, omega (arith, n, c .before .before .before .before .before .if1 .left), omega (arith, n, c .before .before .before .before .if2 .left), f .short, f .listed)
 
 returns-3 : tie.Need-returns-3
 returns-3 c = read-refused (c .before .before .before .before .before .before .before .args .file .now) (c .before .before .before .before .before .before .before .args .lower .now) (c .before .before .before .before .before .before .before .args .upper .now) _ (sym (c .before .before .before .judge .ensures .answer) ∙ ap verdictOf (c .before .refusal .given .1))
@@ -88,15 +83,16 @@ same-length-2 c = search needs
 
 returns-4 : tie.Need-returns-4
 returns-4 c =
-    let a = c .before .before .before .before .before .before .before .before .before .before .before .before .before .before .before .before .before .before .before .before .before .args in
-    let s = shape-of (c .before .before .before .before .before .before .before .before .before .before .before .before .before .before .before) in
-    let n = c .before .before .before .before .before .before .before .before .before .before .before .before .cells .ensures in
-    let ks = c .before .before .before .before .before .before .before .before .before .places .ensures in
-    read-table (a .file .now) (a .lower .now) (a .upper .now) _ (file-verdict (c .before .before .before .before .before .before .before .before .before .before .before .before .before .before .before))
-    (and-both (le-leb _ _ (subst (λ (k : ℕ). k ≤ length (a .lower .now)) n (c .before .before .before .before .before .before .before .before .before .before .before .if1 .left))) (le-leb _ _ (subst (λ (k : ℕ). k ≤ length (a .upper .now)) n (c .before .before .before .before .before .before .before .before .before .before .if2 .left))))
+    let a = c .before .before .before .before .before .before .before .before .before .before .before .before .before .before .before .before .before .before .before .before .args in
+    let s = shape-of (c .before .before .before .before .before .before .before .before .before .before .before .before .before .before) in
+    let n = c .before .before .before .before .before .before .before .before .before .before .before .cells .ensures in
+    let ks = c .before .before .before .before .before .before .before .before .places .ensures in
+    let w = c .before .before .before .before .write-limits .ensures in
+    read-table (a .file .now) (a .lower .now) (a .upper .now) _ (file-verdict (c .before .before .before .before .before .before .before .before .before .before .before .before .before .before))
+    (and-both (le-leb _ _ (subst (λ (k : ℕ). k ≤ length (a .lower .now)) n (c .before .before .before .before .before .before .before .before .before .before .if1 .left))) (le-leb _ _ (subst (λ (k : ℕ). k ≤ length (a .upper .now)) n (c .before .before .before .before .before .before .before .before .before .if2 .left))))
     s (sym (from-cards s)) _ _
-    (c .before .before .before .before .before .before .write-limits .ensures ∙ ap (λ (l : List ℕ). laid-limits (a .file .now) l 1 1 (a .lower .now)) ks)
-    (c .before .before .write-limits2 .ensures ∙ ap (λ (l : List ℕ). laid-limits (a .file .now) l 2 (s .m - 1) (a .upper .now)) ks)
+    (w .0 ∙ ap (λ (l : List ℕ). laid-limits (a .file .now) l 1 1 (a .lower .now)) ks)
+    (w .1 ∙ ap (λ (l : List ℕ). laid-limits (a .file .now) l 2 (s .m - 1) (a .upper .now)) ks)
 
 pub read-table-spec : {M : Type 1} → statement M
 read-table-spec =
@@ -111,7 +107,6 @@ read-table-spec =
     places-requires
     sub-top
     write-limits-requires
-    write-limits-requires-2
     returns-3
     same-length
     same-length-2

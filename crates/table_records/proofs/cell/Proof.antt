@@ -8,8 +8,8 @@ use lib.Dec.{T, leb, ltb, ltb→lt}
 use borrow.Author.Tests.{not-true, not-false, eq-eqb, ne-eqb, lt-leb, le-leb}
 use Rattle.rules.specs.Bytes.{at, all, zeros}
 use Rattle.rules.specs.Cell.{card}
-use Rattle.rules.specs.Verdict.{accepted}
-use Rattle.rules.specs.TableFile.{listedCell}
+use Rattle.rules.specs.Verdict.{accepted, refused}
+use Rattle.rules.specs.TableFile.{listedCell, cellClear}
 use Rattle.laws.proofs.TableLaws.{all-at}
 use Rattle.laws.proofs.NumberLaws.{number-lt}
 use Rattle.laws.proofs.TestLaws.{and-both, and-left, and-right}
@@ -25,7 +25,7 @@ cell-zeros-requires : tie.Need-cell-zeros-requires
 cell-zeros-requires c κs = search needs
 
 -- what each row that passed has shown
-zeros-true : (c : tie.Else1) → (zeros (c .before .before .before .before .args .r .now) 3 8 && zeros (c .before .before .before .before .args .r .now) (8 + c .before .before .before .before .args .s .shape .n) 16) ≡ true
+zeros-true : (c : tie.Else1) → (cellClear (c .before .before .before .before .args .edition) (c .before .before .before .before .args .r .now) && zeros (c .before .before .before .before .args .r .now) (8 + c .before .before .before .before .args .s .shape .n) 16) ≡ true
 zeros-true c = sym (c .before .cell-zeros .ensures) ∙ not-false (c .before .cell-zeros .result) (c .if1 .left)
 
 values-are : (c : tie.After-values-below) → all 8 (λ i. ltb (at (c .before .before .before .before .before .before .before .before .args .r .now) (8 + i)) (card (placesOf (c .before .before .before .before .before .before .before .before .args .s .shape)) i)) ≡ c .values-below .result
@@ -51,10 +51,10 @@ values-and-number c =
     and-both (values-true (c .before .before .before)) (le-leb _ _ (subst (λ (n : ℕ). c .before .before .before .before .before .before .before .before .before .before .before .before .args .s .next ≤ n) (number-is (c .before .before)) (c .if4 .left)))
 
 returns : tie.Need-returns
-returns c = sym (cell-by (seenOf (c .before .before .before .before .args .s)) (c .before .before .before .before .args .r .now) false _ _ _ (sym (c .before .cell-zeros .ensures) ∙ not-true (c .before .cell-zeros .result) (c .if1 .taken)) refl refl refl)
+returns c = sym (cell-by (seenOf (c .before .before .before .before .args .s)) (c .before .before .before .before .args .r .now) (c .before .before .before .before .args .edition) false _ _ _ (sym (c .before .cell-zeros .ensures) ∙ not-true (c .before .cell-zeros .result) (c .if1 .taken)) refl refl refl)
 
 returns-2 : tie.Need-returns-2
-returns-2 c = sym (cell-by (seenOf (c .before .before .before .before .before .before .args .s)) (c .before .before .before .before .before .before .args .r .now) true true _ _ (zeros-true (c .before .before)) (eq-eqb _ _ (c .if2 .taken)) refl refl)
+returns-2 c = sym (cell-by (seenOf (c .before .before .before .before .before .before .args .s)) (c .before .before .before .before .before .before .args .r .now) (c .before .before .before .before .before .before .args .edition) true true _ _ (zeros-true (c .before .before)) (eq-eqb _ _ (c .if2 .taken)) refl refl)
 
 places-requires : tie.Need-places-requires
 places-requires c κs = search needs
@@ -65,7 +65,7 @@ values-below-requires c κs = search needs
 returns-3 : tie.Need-returns-3
 returns-3 c =
     sym
-    (cell-by (seenOf (c .before .before .before .before .before .before .before .before .before .args .s)) (c .before .before .before .before .before .before .before .before .before .args .r .now) true false false _ (zeros-true (c .before .before .before .before .before)) (ne-eqb _ _ (c .before .before .before .if2 .left))
+    (cell-by (seenOf (c .before .before .before .before .before .before .before .before .before .args .s)) (c .before .before .before .before .before .before .before .before .before .args .r .now) (c .before .before .before .before .before .before .before .before .before .args .edition) true false false _ (zeros-true (c .before .before .before .before .before)) (ne-eqb _ _ (c .before .before .before .if2 .left))
     (and-left _ (values-are (c .before) ∙ not-true (c .before .values-below .result) (c .if3 .taken))) refl)
 
 number-requires : tie.Need-number-requires
@@ -82,36 +82,36 @@ number-requires c κs =
 returns-4 : tie.Need-returns-4
 returns-4 c =
     sym
-    (cell-by (seenOf (c .before .before .before .before .before .before .before .before .before .before .before .before .args .s)) (c .before .before .before .before .before .before .before .before .before .before .before .before .args .r .now) true false false _ (zeros-true (c .before .before .before .before .before .before .before .before)) (ne-eqb _ _ (c .before .before .before .before .before .before .if2 .left))
+    (cell-by (seenOf (c .before .before .before .before .before .before .before .before .before .before .before .before .args .s)) (c .before .before .before .before .before .before .before .before .before .before .before .before .args .r .now) (c .before .before .before .before .before .before .before .before .before .before .before .before .args .edition) true false false _ (zeros-true (c .before .before .before .before .before .before .before .before)) (ne-eqb _ _ (c .before .before .before .before .before .before .if2 .left))
     (and-right (all 8 (λ i. ltb (at (c .before .before .before .before .before .before .before .before .before .before .before .before .args .r .now) (8 + i)) (card (placesOf (c .before .before .before .before .before .before .before .before .before .before .before .before .args .s .shape)) i))) (lt-leb _ _ (subst (λ (n : ℕ). n < c .before .before .before .before .before .before .before .before .before .before .before .before .args .s .next) (number-is (c .before .before)) (c .if4 .taken)))) refl)
 
-shared-slice-read-limits-in-order : tie.Need-shared-slice-read-limits-in-order
-shared-slice-read-limits-in-order c = search needs
+cell-sound-requires : tie.Need-cell-sound-requires
+cell-sound-requires c κs = search needs
 
-shared-slice-read-limits-in-order-2 : tie.Need-shared-slice-read-limits-in-order-2
-shared-slice-read-limits-in-order-2 c = search needs
-
-limits-in-order-requires : tie.Need-limits-in-order-requires
-limits-in-order-requires c κs = search needs
+cell-refusal-requires : tie.Need-cell-refusal-requires
+cell-refusal-requires c κs = search needs
 
 returns-5 : tie.Need-returns-5
 returns-5 c =
-    sym
-    (cell-by (seenOf (c .before .before .before .before .before .before .before .before .before .before .before .before .before .before .before .before .args .s)) (c .before .before .before .before .before .before .before .before .before .before .before .before .before .before .before .before .args .r .now) true false true false (zeros-true (c .before .before .before .before .before .before .before .before .before .before .before .before)) (ne-eqb _ _ (c .before .before .before .before .before .before .before .before .before .before .if2 .left))
-    (values-and-number (c .before .before .before .before)) (sym (c .before .limits-in-order .ensures) ∙ not-true (c .before .limits-in-order .result) (c .if5 .taken)))
+    let a = c .before .before .before .before .before .before .before .before .before .before .before .before .before .before .before .args in
+    ap refused (c .cell-refusal .ensures)
+    ∙ sym
+    (cell-by (seenOf (a .s)) (a .r .now) (a .edition) true false true false (zeros-true (c .before .before .before .before .before .before .before .before .before .before .before)) (ne-eqb _ _ (c .before .before .before .before .before .before .before .before .before .if2 .left))
+    (values-and-number (c .before .before .before)) (sym (c .before .before .cell-sound .ensures) ∙ not-true (c .before .before .cell-sound .result) (c .before .if5 .taken)))
 
-add-t17 : tie.Need-add-t17
-add-t17 c =
-    let s = c .before .before .before .before .before .before .before .before .before .before .before .before .before .before .before .before .args .s .shape in
-    omega (arith, number-is (c .before .before .before .before .before .before), c .before .before .before .before .before .before .before .before .before .before .before .before .before .before .before .before .pre .0 .few, number-lt (placesOf s) (λ i. at (c .before .before .before .before .before .before .before .before .before .before .before .before .before .before .before .before .args .r .now) (8 + i)) (λ i h. values-below-all (c .before .before .before .before .before .before .before) i (omega (arith, eight-places s))))
+add-t14 : tie.Need-add-t14
+add-t14 c =
+    let a = c .before .before .before .before .before .before .before .before .before .before .before .before .before .before .args in
+    let s = a .s .shape in
+    omega (arith, number-is (c .before .before .before .before), c .before .before .before .before .before .before .before .before .before .before .before .before .before .before .pre .0 .few, number-lt (placesOf s) (λ i. at (a .r .now) (8 + i)) (λ i h. values-below-all (c .before .before .before .before .before) i (omega (arith, eight-places s))))
 
 returns-6 : tie.Need-returns-6
 returns-6 c =
-    let a = c .before .before .before .before .before .before .before .before .before .before .before .before .before .before .before .before .args in
-    ap (λ (n : ℕ). accepted (seenOf (record { shape = a .s .shape; next = n + 1 }))) (number-is (c .before .before .before .before .before .before))
+    let a = c .before .before .before .before .before .before .before .before .before .before .before .before .before .before .args in
+    ap (λ (n : ℕ). accepted (seenOf (record { shape = a .s .shape; next = n + 1 }))) (number-is (c .before .before .before .before))
     ∙ sym
-    (cell-by (seenOf (a .s)) (a .r .now) true false true true (zeros-true (c .before .before .before .before .before .before .before .before .before .before .before .before)) (ne-eqb _ _ (c .before .before .before .before .before .before .before .before .before .before .if2 .left))
-    (values-and-number (c .before .before .before .before)) (sym (c .before .limits-in-order .ensures) ∙ not-false (c .before .limits-in-order .result) (c .if5 .left)))
+    (cell-by (seenOf (a .s)) (a .r .now) (a .edition) true false true true (zeros-true (c .before .before .before .before .before .before .before .before .before .before)) (ne-eqb _ _ (c .before .before .before .before .before .before .before .before .if2 .left))
+    (values-and-number (c .before .before)) (sym (c .before .cell-sound .ensures) ∙ not-false (c .before .cell-sound .result) (c .if5 .left)))
 
 pub cell-spec : {M : Type 1} → statement M
 cell-spec =
@@ -125,9 +125,8 @@ cell-spec =
     returns-3
     number-requires
     returns-4
-    shared-slice-read-limits-in-order
-    shared-slice-read-limits-in-order-2
-    limits-in-order-requires
+    cell-sound-requires
+    cell-refusal-requires
     returns-5
-    add-t17
+    add-t14
     returns-6)

@@ -6,22 +6,22 @@ use Rattle.table_records.proofs.cell_zeros.Statement.{statement}
 use Rattle.table_records.proofs.cell_zeros.Tie as tie
 use Rattle.laws.proofs.TestLaws.{and-left, and-pass}
 
-zero-between-requires : tie.Need-zero-between-requires
-zero-between-requires c κs = search needs
+cell-clear-requires : tie.Need-cell-clear-requires
+cell-clear-requires c κs = search needs
 
 returns : tie.Need-returns
-returns c = sym (and-left _ (sym (c .before .zero-between .ensures) ∙ not-true (c .before .zero-between .result) (c .if1 .taken)))
+returns c = sym (and-left _ (sym (c .before .cell-clear .ensures) ∙ not-true (c .before .cell-clear .result) (c .if1 .taken)))
 
 add-zero-between : tie.Need-add-zero-between
 add-zero-between c = search needs
 
-zero-between-requires-2 : tie.Need-zero-between-requires-2
-zero-between-requires-2 c κs = search needs
+zero-between-requires : tie.Need-zero-between-requires
+zero-between-requires c κs = search needs
 
 returns-2 : tie.Need-returns-2
-returns-2 c = c .zero-between2 .ensures ∙ sym (and-pass _ (sym (c .before .before .zero-between .ensures) ∙ not-false (c .before .before .zero-between .result) (c .before .if1 .left)))
+returns-2 c = c .zero-between .ensures ∙ sym (and-pass _ (sym (c .before .before .cell-clear .ensures) ∙ not-false (c .before .before .cell-clear .result) (c .before .if1 .left)))
 
 pub cell-zeros-spec : {M : Type 1} → statement M
 cell-zeros-spec =
     tie.close
-    (tie.spec zero-between-requires returns add-zero-between zero-between-requires-2 returns-2)
+    (tie.spec cell-clear-requires returns add-zero-between zero-between-requires returns-2)

@@ -20,10 +20,10 @@ use Rattle.table_records.proofs.records.Statement.{statement}
 use Rattle.table_records.proofs.records.Tie as tie
 
 abbrev Inv-loop : tie.InvT-loop
-Inv-loop file count s₀ k₀ s k = (k ≤ count) × InRange (seenOf s) × (tableRecords file k (count - k) (seenOf s) ≡ tableRecords file 0 count start)
+Inv-loop file edition count s₀ k₀ s k = (k ≤ count) × InRange (seenOf s) × (tableRecords edition file k (count - k) (seenOf s) ≡ tableRecords edition file 0 count start)
 
 abbrev μ-loop : tie.MeasureT-loop
-μ-loop file count s₀ k₀ s k = count - k
+μ-loop file edition count s₀ k₀ s k = count - k
 
 first-seen-requires : tie.Need-first-seen-requires Inv-loop μ-loop
 first-seen-requires c κs = search needs
@@ -32,7 +32,7 @@ loop-holds : tie.Need-loop-holds Inv-loop μ-loop
 loop-holds c =
     let file = c .before .before .args .file .now in
     let e : length file / 16 - 0 ≡ length file / 16 = omega arith in
-    (search needs, subst InRange (sym (c .first-seen .ensures)) kept-start, ap₂ (tableRecords file 0) e (c .first-seen .ensures))
+    (search needs, subst InRange (sym (c .first-seen .ensures)) kept-start, ap₂ (tableRecords (c .before .before .args .edition) file 0) e (c .first-seen .ensures))
 
 mul-a : tie.Need-mul-a Inv-loop μ-loop
 mul-a c = search needs
@@ -60,17 +60,18 @@ enum-known-refusal c = search needs
 
 -- the verdict on a record, as the rules give it
 record-verdict : (c : tie.After-judge-record Inv-loop μ-loop)
-    → tableRecord (seenOf (c .before .before .before .loop .s)) (recordAt (c .before .before .before .before .before .before .args .file .now) (c .before .before .before .loop .k)) ≡ verdictOf (c .judge-record .result)
+    → tableRecord (c .before .before .before .before .before .before .args .edition) (seenOf (c .before .before .before .loop .s)) (recordAt (c .before .before .before .before .before .before .args .file .now) (c .before .before .before .loop .k)) ≡ verdictOf (c .judge-record .result)
 record-verdict c =
-    ap (tableRecord (seenOf (c .before .before .before .loop .s))) (sym (part-record (c .before .before .before .before .before .before .args .file .now) (c .before .before .before .loop .k))) ∙ sym (c .judge-record .ensures)
+    ap (tableRecord (c .before .before .before .before .before .before .args .edition) (seenOf (c .before .before .before .loop .s))) (sym (part-record (c .before .before .before .before .before .before .args .file .now) (c .before .before .before .loop .k))) ∙ sym (c .judge-record .ensures)
 
 returns : tie.Need-returns Inv-loop μ-loop
 returns c =
+    let e = c .before .before .before .before .before .before .before .before .before .args .edition in
     let file = c .before .before .before .before .before .before .before .before .before .args .file .now in
     let l = c .before .before .before .before .before .before .loop in
     let n = length file / 16 in
     let v = record-verdict (c .before .before .before) ∙ ap verdictOf (c .before .refusal .given .1) in
-    sym (records-next file (l .k) n (seenOf (l .s)) (search needs) ∙ ap (λ (x : Verdict Seen). andThen x (tableRecords file (l .k + 1) (n - (l .k + 1)))) v) ∙ l .inv .2
+    sym (records-next e file (l .k) n (seenOf (l .s)) (search needs) ∙ ap (λ (x : Verdict Seen). andThen x (tableRecords e file (l .k + 1) (n - (l .k + 1)))) v) ∙ l .inv .2
 
 add-k : tie.Need-add-k Inv-loop μ-loop
 add-k c = search needs
@@ -80,26 +81,29 @@ loop-less c = search needs
 
 loop-again : tie.Need-loop-again Inv-loop μ-loop
 loop-again c =
+    let e = c .before .before .before .before .before .before .before .before .before .args .edition in
     let file = c .before .before .before .before .before .before .before .before .before .args .file .now in
     let l = c .before .before .before .before .before .before .loop in
     let n = length file / 16 in
     let v = record-verdict (c .before .before .before) ∙ ap verdictOf (c .before .t .given .1) in (
       search needs,
-      accepted-step (seenOf (l .s)) (recordAt file (l .k)) (l .inv .1) _ v .kept,
-      sym (records-next file (l .k) n (seenOf (l .s)) (search needs) ∙ ap (λ (x : Verdict Seen). andThen x (tableRecords file (l .k + 1) (n - (l .k + 1)))) v) ∙ l .inv .2,
+      accepted-step e (seenOf (l .s)) (recordAt file (l .k)) (l .inv .1) _ v .kept,
+      sym (records-next e file (l .k) n (seenOf (l .s)) (search needs) ∙ ap (λ (x : Verdict Seen). andThen x (tableRecords e file (l .k + 1) (n - (l .k + 1)))) v) ∙ l .inv .2,
     )
 
 returns-2 : tie.Need-returns-2 Inv-loop μ-loop
 returns-2 c =
+    let e = c .before .before .before .before .before .before .args .edition in
     let file = c .before .before .before .before .before .before .args .file .now in
     let l = c .before .before .before .loop in
-    sym (records-end file (l .k) (length file / 16) (seenOf (l .s)) (c .before .before .loop-test .left) ∙ ap (λ (b : Bool). unless (not b) RecordOrder (accepted (seenOf (l .s)))) (eq-eqb _ _ (c .if1 .taken))) ∙ l .inv .2
+    sym (records-end e file (l .k) (length file / 16) (seenOf (l .s)) (c .before .before .loop-test .left) ∙ ap (λ (b : Bool). unless (not b) RecordOrder (accepted (seenOf (l .s)))) (eq-eqb _ _ (c .if1 .taken))) ∙ l .inv .2
 
 returns-3 : tie.Need-returns-3 Inv-loop μ-loop
 returns-3 c =
+    let e = c .before .before .before .before .before .before .args .edition in
     let file = c .before .before .before .before .before .before .args .file .now in
     let l = c .before .before .before .loop in
-    sym (records-end file (l .k) (length file / 16) (seenOf (l .s)) (c .before .before .loop-test .left) ∙ ap (λ (b : Bool). unless (not b) RecordOrder (accepted (seenOf (l .s)))) (ne-eqb _ _ (c .if1 .left))) ∙ l .inv .2
+    sym (records-end e file (l .k) (length file / 16) (seenOf (l .s)) (c .before .before .loop-test .left) ∙ ap (λ (b : Bool). unless (not b) RecordOrder (accepted (seenOf (l .s)))) (ne-eqb _ _ (c .if1 .left))) ∙ l .inv .2
 
 pub records-spec : {M : Type 1} → statement M
 records-spec =

@@ -15,16 +15,26 @@ use Rattle.table_file.proofs.writing.store.Statement.{statement}
 use Rattle.table_file.proofs.writing.store.Tie as tie
 
 abbrev Inv-loop : tie.InvT-loop
-Inv-loop file ks j to₀ count k₀ to k = (k ≤ count) × (length to ≡ length to₀) × (listedOver file ks j k (count - k) to ≡ listedOver file ks j 0 count to₀)
+Inv-loop file ks lower₀ upper₀ count k₀ lower upper k =
+    (k ≤ count)
+    × (length lower ≡ length lower₀)
+    × (length upper ≡ length upper₀)
+    × (listedOver file ks 1 k (count - k) lower ≡ listedOver file ks 1 0 count lower₀)
+    × (listedOver file ks 2 k (count - k) upper ≡ listedOver file ks 2 0 count upper₀)
 
 abbrev μ-loop : tie.MeasureT-loop
-μ-loop file ks j to₀ count k₀ to k = count - k
+μ-loop file ks lower₀ upper₀ count k₀ lower upper k = count - k
 
 loop-holds : tie.Need-loop-holds Inv-loop μ-loop
 loop-holds c =
-    let a = c .before .before .args in
-    let e : length (a .file .now) / 16 - 0 ≡ length (a .file .now) / 16 = omega arith in
-    (search needs, refl, ap (λ (n : ℕ). listedOver (a .file .now) (a .ks) (a .j) 0 n (a .to .now)) e)
+    let a = c .before .before .before .args in
+    let e : length (a .file .now) / 16 - 0 ≡ length (a .file .now) / 16 = omega arith in (
+      search needs,
+      refl,
+      refl,
+      ap (λ (n : ℕ). listedOver (a .file .now) (a .ks) 1 0 n (a .lower .now)) e,
+      ap (λ (n : ℕ). listedOver (a .file .now) (a .ks) 2 0 n (a .upper .now)) e,
+    )
 
 mul-a : tie.Need-mul-a Inv-loop μ-loop
 mul-a c = search needs
@@ -43,13 +53,13 @@ part-store-record-end c = search needs
 
 store-record-requires : tie.Need-store-record-requires Inv-loop μ-loop
 store-record-requires c κs =
-    let a = c .before .before .before .before .before .before .args in
-    let p = c .before .before .before .before .before .before .pre in
-    let l = c .before .before .before .loop in (
+    let a = c .before .before .before .before .before .before .before .before .args in
+    let p = c .before .before .before .before .before .before .before .before .pre in
+    let l = c .before .before .before .before .loop in (
       p .0,
       p .1,
       omega (arith, p .2, l .inv .1),
-      p .3,
+      omega (arith, p .3, l .inv .2),
       ap length (part-record (a .file .now) (l .k)) ∙ record-length (a .file .now) (l .k) (omega arith),
       subst (λ (r : List ℕ). RecordBelow r (a .ks)) (sym (part-record (a .file .now) (l .k))) (p .5 (l .k) (search needs)),
     )
@@ -62,25 +72,36 @@ loop-less c = search needs
 
 loop-again : tie.Need-loop-again Inv-loop μ-loop
 loop-again c =
-    let a = c .before .before .before .before .before .before .before .before .before .args in
-    let l = c .before .before .before .before .before .before .loop in
+    let a = c .before .before .before .before .before .before .before .before .before .before .before .before .before .args in
+    let l = c .before .before .before .before .before .before .before .before .before .loop in
+    let s = c .before .before .before .before .store-record .ensures in
     let r = recordAt (a .file .now) (l .k) in
-    let e = c .before .before .store-record .ensures ∙ ap (λ (r : List ℕ). laidOver r (a .ks) (a .j) (l .to)) (part-record (a .file .now) (l .k)) in (
+    let n = length (a .file .now) / 16 in
+    let lower = s .0 ∙ ap (λ (r : List ℕ). laidOver r (a .ks) 1 (l .lower)) (part-record (a .file .now) (l .k)) in
+    let upper = s .1 ∙ ap (λ (r : List ℕ). laidOver r (a .ks) 2 (l .upper)) (part-record (a .file .now) (l .k)) in (
       search needs,
-      ap length e ∙ length-laid r (a .ks) (a .j) (l .to) ∙ l .inv .1,
-      ap (listedOver (a .file .now) (a .ks) (a .j) (l .k + 1) (length (a .file .now) / 16 - (l .k + 1))) e
-          ∙ sym (listed-next (a .file .now) (a .ks) (a .j) (l .k) (length (a .file .now) / 16) (l .to) (search needs)) ∙ l .inv .2,
+      ap length lower ∙ length-laid r (a .ks) 1 (l .lower) ∙ l .inv .1,
+      ap length upper ∙ length-laid r (a .ks) 2 (l .upper) ∙ l .inv .2,
+      ap (listedOver (a .file .now) (a .ks) 1 (l .k + 1) (n - (l .k + 1))) lower
+          ∙ sym (listed-next (a .file .now) (a .ks) 1 (l .k) n (l .lower) (search needs)) ∙ l .inv .3,
+      ap (listedOver (a .file .now) (a .ks) 2 (l .k + 1) (n - (l .k + 1))) upper
+          ∙ sym (listed-next (a .file .now) (a .ks) 2 (l .k) n (l .upper) (search needs)) ∙ l .inv .4,
     )
 
 same-length : tie.Need-same-length Inv-loop μ-loop
 same-length c = search needs
 
+same-length-2 : tie.Need-same-length-2 Inv-loop μ-loop
+same-length-2 c = search needs
+
 returns : tie.Need-returns Inv-loop μ-loop
 returns c =
-    let a = c .before .before .before .before .args in
+    let a = c .before .before .before .before .before .args in
     let l = c .before .loop in
-    let e : 0 ≡ length (a .file .now) / 16 - l .k = omega arith in
-    ap (λ (n : ℕ). listedOver (a .file .now) (a .ks) (a .j) (l .k) n (l .to)) e ∙ l .inv .2
+    let e : 0 ≡ length (a .file .now) / 16 - l .k = omega arith in (
+      ap (λ (n : ℕ). listedOver (a .file .now) (a .ks) 1 (l .k) n (l .lower)) e ∙ l .inv .3,
+      ap (λ (n : ℕ). listedOver (a .file .now) (a .ks) 2 (l .k) n (l .upper)) e ∙ l .inv .4,
+    )
 
 pub store-spec : {M : Type 1} → statement M
 store-spec =
@@ -99,4 +120,5 @@ store-spec =
     loop-less
     loop-again
     same-length
+    same-length-2
     returns)
