@@ -1,13 +1,16 @@
 // What C programs call. Each shape that is lent is ten bytes: the number of conditions, the eight
 // cardinalities, the number of grades.
+ghost use Rattle.rules.specs.declared.Edition.the-variants.{Ours, Spreadsheet};
 ghost use Rattle.rules.specs.declared.Gate.the-variants.{Min, Max};
 ghost use Rattle.panel_networks.specs.Evaluates.{Evaluates};
 ghost use Rattle.panel_networks.specs.EvaluatesEach.{EvaluatesEach};
 ghost use Rattle.panel_reads.specs.Reads.{Reads};
+ghost use Rattle.panel_editions.specs.Converts.{Converts};
 ghost use Rattle.panel_joins.specs.Joins.{JoinsFirst, JoinsSecond};
 ghost use Rattle.panel_networks.specs.Compiles.{Compiles};
 ghost use Rattle.panel_networks.specs.Forecasts.{Forecasts};
 ghost use Rattle.panel_networks.specs.Checks.{Checks};
+use rules::Edition;
 use rules::Gate;
 
 // The grade of a network at a cell. The work buffer has a byte for each record.
@@ -44,6 +47,22 @@ pub extern "C" fn grades_read(
     ensures { λ r. ⌜ Reads (now (file .entry)) (now (shape .entry)) (now (lower .entry)) (now (upper .entry)) r (now (shape .exit)) (now (lower .exit)) (now (upper .exit)) ⌝ }
 {
     panel_reads::read(file, shape, lower, upper)
+}
+
+// A file of ours in the spreadsheet's edition, whose cells have sets of grades.
+#[no_mangle]
+pub extern "C" fn grades_to_sets(file: &[u8], out: &mut [u8]) -> u32
+    ensures { λ r. ⌜ Converts Ours (now (file .entry)) (now (out .entry)) r (now (out .exit)) ⌝ }
+{
+    panel_editions::convert(file, out, Edition::Ours)
+}
+
+// A file of the spreadsheet's edition in ours.
+#[no_mangle]
+pub extern "C" fn grades_from_sets(file: &[u8], out: &mut [u8]) -> u32
+    ensures { λ r. ⌜ Converts Spreadsheet (now (file .entry)) (now (out .entry)) r (now (out .exit)) ⌝ }
+{
+    panel_editions::convert(file, out, Edition::Spreadsheet)
 }
 
 // The limits of a max join's first block.
@@ -132,7 +151,7 @@ pub extern "C" fn grades_join_min_second(
     )
 }
 
-// The network of a table: how many records were written. The work buffer has 16 bytes for each
+// The network of a table: how many records were written. The work buffer has 32 bytes for each
 // cell, the network buffer 16 for each of the most records that there can be.
 #[no_mangle]
 pub extern "C" fn grades_compile(

@@ -1,2 +1,3 @@
--- Its proof.
+-- Their proofs.
 pub mod WholePathLaws
+pub mod FromSpreadsheetLaws

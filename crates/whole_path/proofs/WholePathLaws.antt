@@ -8,6 +8,7 @@ use borrow.Author.Tests.{le-leb, lt-ltb}
 use lib.Dec.{T, leb}
 use lib.ListN.{length, take, drop, length-take}
 use lib.Seq.{getD-take}
+use Rattle.rules.specs.declared.Edition.the-variants.{Ours}
 use Rattle.rules.specs.declared.Refusal.the-variants.{ShapeRange, ShortBuffer, GradeLimits, Network, CellNumber}
 use Rattle.rules.specs.Bytes.{at}
 use Rattle.rules.specs.Cell.{cells}
@@ -131,13 +132,13 @@ module _ (file shape lower upper shape′ lower′ upper′ : List ℕ) (got : R
   abbrev x : Shape
   x = shapeFrom (s .n) (s .cards) (s .m)
 
-  judged : judgeFile file ≡ accepted s
+  judged : judgeFile Ours file ≡ accepted s
   unfolding verdict s
   judged =
       file-judged file lower upper (last-passed (judgeReading file (length lower) (length upper)) (λ t. leb 10 (length shape)) ShortBuffer (read .1))
 
-  whole : Accepted file s
-  whole = accepted-file file s judged
+  whole : Accepted Ours file s
+  whole = accepted-file Ours file s judged
 
   same-places : placesOf x ≡ places (s .cards)
   same-places = ap places (cards-from (s .n) (s .cards) (s .m) (whole .kept .eight))

@@ -1,2 +1,3 @@
--- The theorem from a table file to a grade.
+-- The theorems from a table file to a grade.
 pub mod WholePath
+pub mod FromSpreadsheet

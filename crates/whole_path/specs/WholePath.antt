@@ -5,6 +5,7 @@ use Prim.Native.Nat.{ℕ, _*_, _≤_, _<_}
 use mathlib.Core.Path.{_≡_}
 use mathlib.Core.List.{List}
 use lib.ListN.{length, take}
+use Rattle.rules.specs.declared.Edition.the-variants.{Ours}
 use Rattle.rules.specs.Bytes.{at, word}
 use Rattle.rules.specs.Cell.{cells}
 use Rattle.rules.specs.Shape.{places}
@@ -40,7 +41,7 @@ module _ (file shape lower upper : List ℕ) (n : ℕ) (network : List ℕ) wher
   pub record Followed : Type 0 where
     -- the table that the file holds
     pub table : Seen
-    pub holds : judgeFile file ≡ accepted table
+    pub holds : judgeFile Ours file ≡ accepted table
     -- compiling did not refuse it
     pub compiled : n < 65536
     -- evaluated at any cell, the network gives a grade that obeys the file

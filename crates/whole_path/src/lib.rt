@@ -1,1 +1,1 @@
-// The theorem from a table file to a grade. It has no code: specs/WholePath.antt states it, of the calls for C.
+// The theorems from a table file, of either edition, to a grade. They have no code: specs/ states them, of the calls for C.

@@ -1,0 +1,3 @@
+-- What several proofs use.
+pub mod EditionLaws
+pub mod ConvertLaws

@@ -1,0 +1,2 @@
+-- What the contracts of `editions` cite.
+pub mod Converting

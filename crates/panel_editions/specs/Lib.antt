@@ -1,0 +1,2 @@
+-- What the contracts of `panel_editions` cite.
+pub mod Converts
