@@ -8,6 +8,7 @@ use native.Mathlib.Omega.{arith}
 use borrow.Author.Tests.{le-leb}
 use lib.Dec.{leb, eqb}
 use lib.ListN.{length, drop}
+use Rattle.rules.specs.declared.Edition.the-variants.{Ours}
 use Rattle.rules.specs.declared.Refusal.{Refusal}
 use Rattle.rules.specs.declared.Refusal.the-variants.{ShortBuffer}
 use Rattle.rules.specs.Cell.{cells}
@@ -83,12 +84,12 @@ module _ {file lower upper : List ℕ} {a : TableAnswer} {lower′ upper′ : Li
   abbrev room : Seen → Bool
   room s = leb (cells (places (s .cards))) 1024 && leb (cells (places (s .cards))) 1024
 
-  with-room : (v : Verdict Seen) → judgeFile file ≡ v → andThen v (λ s. unless (room s) ShortBuffer (accepted s)) ≡ v
-  with-room (accepted s) g = let h = le-leb (cells (places (s .cards))) 1024 (accepted-file file s g .kept .few) in row-pass ShortBuffer (accepted s) (and-both h h)
+  with-room : (v : Verdict Seen) → judgeFile Ours file ≡ v → andThen v (λ s. unless (room s) ShortBuffer (accepted s)) ≡ v
+  with-room (accepted s) g = let h = le-leb (cells (places (s .cards))) 1024 (accepted-file Ours file s g .kept .few) in row-pass ShortBuffer (accepted s) (and-both h h)
   with-room (refused q) g = refl
 
-  verdict : judgeReading file (length lower) (length upper) ≡ judgeFile file
-  verdict = ap₂ (judgeReading file) e f ∙ with-room (judgeFile file) refl
+  verdict : judgeReading file (length lower) (length upper) ≡ judgeFile Ours file
+  verdict = ap₂ (judgeReading file) e f ∙ with-room (judgeFile Ours file) refl
 
   abbrev network-of : Seen → List Record
   network-of s = compiledRecords (places (s .cards)) (s .m) (fileLimits file s)
@@ -97,11 +98,11 @@ module _ {file lower upper : List ℕ} {a : TableAnswer} {lower′ upper′ : Li
   after v = andThen v (λ s. accepted (network-of s))
 
   pub file-refused : (q : Refusal) → a ≡ table.Refused q → refusalLine q ≡ answerTo file
-  file-refused q g = sym (ap (λ (v : Verdict Seen). printed (after v)) (was-refused (judgeFile file) (sym g ∙ r .answer ∙ ap readAnswer verdict)))
+  file-refused q g = sym (ap (λ (v : Verdict Seen). printed (after v)) (was-refused (judgeFile Ours file) (sym g ∙ r .answer ∙ ap readAnswer verdict)))
 
-  table-rows : (s : Seen) → judgeFile file ≡ accepted s → tableRows (shapeFrom (s .n) (s .cards) (s .m)) lower′ upper′ ≡ accepted (network-of s)
+  table-rows : (s : Seen) → judgeFile Ours file ≡ accepted s → tableRows (shapeFrom (s .n) (s .cards) (s .m)) lower′ upper′ ≡ accepted (network-of s)
   table-rows s own =
-      let whole = accepted-file file s own in
+      let whole = accepted-file Ours file s own in
       let few = whole .kept .few in
       let some = cells-pos (places (s .cards)) (places-positive (s .cards)) in
       table-compiles file s whole lower upper lower′ upper′
@@ -110,5 +111,5 @@ module _ {file lower upper : List ℕ} {a : TableAnswer} {lower′ upper′ : Li
 
   pub file-listed : (shape : Shape) → a ≡ table.Table shape → printed (tableRows shape lower′ upper′) ≡ answerTo file
   file-listed shape g =
-      let was = was-table (judgeFile file) (sym g ∙ r .answer ∙ ap readAnswer verdict) in
+      let was = was-table (judgeFile Ours file) (sym g ∙ r .answer ∙ ap readAnswer verdict) in
       ap (λ (x : Shape). printed (tableRows x lower′ upper′)) (was .2) ∙ ap printed (table-rows (was .0) (was .1)) ∙ sym (ap (λ (v : Verdict Seen). printed (after v)) (was .1))

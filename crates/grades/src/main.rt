@@ -5,21 +5,18 @@ ghost use Rattle.rules.specs.Listing.{printed, answerTo};
 ghost use Rattle.listing.specs.Putting.{Put};
 ghost use Rattle.grades.specs.Answering.{tableRows};
 use compile::CompileAnswer;
-use libc::STDERR_FILENO;
-use libc::STDIN_FILENO;
 use libc::STDOUT_FILENO;
 use listing::put_listing;
 use listing::put_refusal;
 use shape::Shape;
+use streams::INPUT;
+use streams::Input;
 use table_file::TableAnswer;
-
-// A byte more than the longest table file has, so that a longer input is refused.
-const INPUT: usize = 16529;
 
 // What a listing can have at most: 62 bytes for each of 3,067 records, and 14 for the last line.
 const LISTING: usize = 190168;
 
-// What compiling the largest table needs: 16 bytes for each of 1,024 cells, and for each record.
+// What compiling the largest table needs: 32 bytes for each of 1,024 cells, and 16 for each record.
 const WORK: usize = 32768;
 
 const NETWORK: usize = 49072;
@@ -50,29 +47,16 @@ fn answer(out: &mut [u8], file: &[u8]) -> usize
     }
 }
 
-// Whether standard input has been read to its end: a read that fails is no end.
-fn input_ended() -> bool {
-    let mut next = [0u8; 1];
-    libc::read(STDIN_FILENO, &mut next) == 0
-}
-
-fn complain(text: &[u8]) {
-    io::write_all(STDERR_FILENO, text);
-}
-
-// Of a file that does not fill the buffer, all has to be read.
 fn main() {
     let mut file = [0u8; INPUT];
     let mut out = [0u8; LISTING];
-    let len = io::read_full(STDIN_FILENO, &mut file);
-    if len < INPUT {
-        if !input_ended() {
-            complain(b"grades: standard input was not read to its end\n");
-            return;
+    match streams::read_file(&mut file) {
+        Input::Unread => streams::complain(b"grades: standard input was not read to its end\n"),
+        Input::File(len) => {
+            let n = answer(&mut out, &file[..len]);
+            if !io::write_all(STDOUT_FILENO, &out[..n]) {
+                streams::complain(b"grades: the listing was not written to its end\n");
+            }
         }
-    }
-    let n = answer(&mut out, &file[..len]);
-    if !io::write_all(STDOUT_FILENO, &out[..n]) {
-        complain(b"grades: the listing was not written to its end\n");
     }
 }

@@ -9,8 +9,8 @@ use lib.ListN.{length, take, length-append, length-take}
 use Rattle.rules.specs.Bytes.{at, tabulate, tabulateFrom, recordAt}
 use Rattle.rules.specs.Network.{recordOf, recordsFrom}
 use Rattle.rules.specs.Listing.{field, fields, recordLine, linesFrom}
-use Rattle.tables.specs.Part.{Laid}
-use Rattle.tables.proofs.PartLaws.{Filled, filled-laid, laid-append}
+use Rattle.tables.specs.Part.{part, Laid}
+use Rattle.tables.proofs.PartLaws.{Filled, filled-laid, laid-append, laid-part}
 use Rattle.listing.specs.Putting.{Put}
 
 -- no text
@@ -70,10 +70,17 @@ pub lines-more : (ks net : List ℕ) (n : ℕ) → linesFrom 0 (recordsFrom ks n
 lines-more ks net n =
     rw add-one (lines-from ks net 0 0 n ∙ ap (λ (k : ℕ). linesFrom 0 (recordsFrom ks net 0 n) ++ recordLine k (recordOf ks (recordAt net k))) (zero-add n))
 
--- what was laid at the front of a buffer ends within it
-module _ {w t : List ℕ} {n b : ℕ} {w′ : List ℕ} (p : Put w 0 t n b w′) (long : length w′ ≡ n) where
+-- what was laid at the front of a buffer ends within it, and is what stands there
+module _ {w t : List ℕ} {n b : ℕ} {w′ : List ℕ} (p : Put w 0 t n b w′) (long : n ≤ length w′) where
   pub put-fits : b ≤ length w′
   put-fits = let e = p .end in let f = p .few in omega arith
 
   pub put-taken : b ≡ length (take b w′)
   put-taken = let h = put-fits in sym (length-take b w′ ∙ omega arith)
+
+  pub put-front : take b w′ ≡ t
+  unfolding part
+  put-front =
+      let l = p .laid .len in
+      let f = p .few in
+      ap (λ (k : ℕ). take k w′) (p .end ∙ zero-add (length t)) ∙ laid-part (p .laid) (omega arith) refl

@@ -1,0 +1,2 @@
+-- What the contracts of `converter` cite.
+pub mod Replying

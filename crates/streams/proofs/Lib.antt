@@ -1,0 +1,2 @@
+-- What proofs of the programs use.
+pub mod InputLaws

@@ -1,0 +1,2 @@
+-- What the contracts of `streams` cite.
+pub mod Filling
