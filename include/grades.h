@@ -79,6 +79,14 @@ extern "C" {
  * then cells, each with a greater number than the one before. A cell that is
  * not listed has the limits 1 and m - 1: a visit that nobody foresaw leaves
  * at least a plain line. One that may leave nothing must be listed.
+ *
+ * file of sets: a file in the edition that the spreadsheet exports. All is as
+ * in a file, but its cells are of another kind, and none are of kind 3:
+ *   4  cell       bytes 2 and 3: a set of grades, low byte first, bit g for
+ *                 grade g
+ *                 bytes 8 to 15: the values of conditions 0 to 7
+ * A set has one grade or more, none is missing between two of them, and each
+ * is below m.
  */
 #define GRADES_SHAPE_BYTES 10
 #define GRADES_RECORD_BYTES 16
@@ -116,7 +124,7 @@ extern "C" {
  * Stack: a call takes fewer bytes than these, with its arguments and its
  * return address. What memset and memcpy take, and the loader when it binds
  * them, comes on top.
- *   GRADES_READ_STACK_BYTES     grades_read
+ *   GRADES_READ_STACK_BYTES     grades_read, grades_to_sets, grades_from_sets
  *   GRADES_RUN_STACK_BYTES      grades_check and grades_evaluate
  *   GRADES_EACH_STACK_BYTES     grades_evaluate_each
  *   GRADES_COMPILE_STACK_BYTES  grades_compile and grades_forecast
@@ -130,7 +138,7 @@ extern "C" {
 
 /*
  * Refusals are in two families, each a number of its own plus the refusal's,
- * 1 to 12. An answer that is not below the family's number is a refusal.
+ * 1 to 13. An answer that is not below the family's number is a refusal.
  *   GRADES_REFUSED           every call but grades_evaluate, so also
  *                            grades_evaluate_each: above every count of
  *                            records and every answer of grades_check
@@ -170,6 +178,9 @@ extern "C" {
  * not below m, a condition that the shape does not have, or the number of a
  * record that does not come before. */
 #define GRADES_REFUSED_NETWORK (GRADES_REFUSED + 11u)
+/* A cell's set of grades that is empty, that lacks a grade between two of its
+ * own, or that has a grade not below m. */
+#define GRADES_REFUSED_GRADE_SET (GRADES_REFUSED + 13u)
 
 /* Of grades_evaluate: a name that ends alike is the same refusal. The last is
  * for the number of a cell that is not below the number of cells. */
@@ -193,6 +204,28 @@ uint32_t grades_read(const uint8_t *file, size_t file_bytes,
                      uint8_t *shape, size_t shape_bytes,
                      uint8_t *lower, size_t lower_bytes,
                      uint8_t *upper, size_t upper_bytes);
+
+/*
+ * Convert a table between its two editions: grades_to_sets writes the file of
+ * sets that a file becomes, grades_from_sets the file that a file of sets
+ * becomes. In a file of sets a cell has every grade between its limits, these
+ * included, and no other; no gap is ever filled. Every other record, and the
+ * values of every cell, are in both alike.
+ *
+ * out: as many bytes as the file has; these are written. Each call accepts
+ * what the other has written, and gives back the very bytes that it came from.
+ *
+ * Answers 0. Refusals: FILE_LENGTH; then record by record RECORD_BYTES, for
+ * the other edition's cells too, RECORD_ORDER, and SHAPE for a condition or
+ * the grades, CELL_VALUES and then LIMITS or, of sets, GRADE_SET for a cell;
+ * RECORD_ORDER if the grades are missing; last BUFFER, for out_bytes less than
+ * file_bytes. Nothing is written before all of these are ruled out.
+ */
+uint32_t grades_to_sets(const uint8_t *file, size_t file_bytes,
+                        uint8_t *out, size_t out_bytes);
+
+uint32_t grades_from_sets(const uint8_t *file, size_t file_bytes,
+                          uint8_t *out, size_t out_bytes);
 
 /*
  * Joins. Two functions give a grade for each cell, the first not depending on

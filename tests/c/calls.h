@@ -1,5 +1,5 @@
 /*
- * The ten calls, each over a list of its buffers in the order of its
+ * The twelve calls, each over a list of its buffers in the order of its
  * parameters, so that a test can go through calls and buffers alike.
  */
 #ifndef CALLS_H
@@ -24,6 +24,16 @@ static uint32_t cell_number;
 static uint32_t read_lent(const struct lent *lent)
 {
     return grades_read(LENT(0), LENT(1), LENT(2), LENT(3));
+}
+
+static uint32_t to_sets_lent(const struct lent *lent)
+{
+    return grades_to_sets(LENT(0), LENT(1));
+}
+
+static uint32_t from_sets_lent(const struct lent *lent)
+{
+    return grades_from_sets(LENT(0), LENT(1));
 }
 
 static uint32_t join_max_first_lent(const struct lent *lent)

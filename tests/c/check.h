@@ -1,6 +1,6 @@
 /*
  * What the C programs share: a count of checks, table E of document 01 with
- * its file and its network, and other tables of four cells.
+ * its file in both editions and its network, and other tables of four cells.
  */
 #ifndef CHECK_H
 #define CHECK_H
@@ -66,6 +66,16 @@ static const uint8_t file_of_e[7][RECORD] = {
     {3, 1, 1, 0, 0, 0, 0, 0, 1, 0},
     {3, 1, 1, 0, 0, 0, 0, 0, 0, 1},
     {3, 0, 0, 0, 0, 0, 0, 0, 1, 1},
+};
+
+static const uint8_t sets_of_e[7][RECORD] = {
+    {1, 0, 2},
+    {1, 1, 2},
+    {2, 2},
+    {4, 0, 1, 0, 0, 0, 0, 0, 0, 0},
+    {4, 0, 2, 0, 0, 0, 0, 0, 1, 0},
+    {4, 0, 2, 0, 0, 0, 0, 0, 0, 1},
+    {4, 0, 1, 0, 0, 0, 0, 0, 1, 1},
 };
 
 static const uint8_t parity[7][RECORD] = {

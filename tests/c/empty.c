@@ -104,6 +104,13 @@ static void reading(void)
     expect_each("read", read_lent, 0);
 }
 
+static void converting(const char *name, lent_call *call, const void *file)
+{
+    lend("file", file, sizeof file_of_e, GRADES_REFUSED_FILE_LENGTH);
+    lend("out", NULL, sizeof file_of_e, GRADES_REFUSED_BUFFER);
+    expect_each(name, call, 0);
+}
+
 static void joining_first(const char *name, lent_call *call, const uint8_t *table)
 {
     lend_table(table);
@@ -170,6 +177,8 @@ int main(void)
     }
     forbidden = page;
     reading();
+    converting("to_sets", to_sets_lent, file_of_e);
+    converting("from_sets", from_sets_lent, sets_of_e);
     joining_first("join_max_first", join_max_first_lent, either);
     joining_first("join_min_first", join_min_first_lent, both);
     joining_second("join_max_second", join_max_second_lent, either);

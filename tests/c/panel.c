@@ -1,8 +1,9 @@
 /*
- * The whole library, on tables of four cells and one of eight: reads,
- * forecasts, compiles, checks and evaluates table E of document 01, joins where
- * it can be done, and asks each call for its refusals. Each call is held to its
- * answer, and to every byte of the buffers that it may write.
+ * The whole library, on tables of four cells, one of eight and some of one:
+ * reads, converts, forecasts, compiles, checks and evaluates table E of
+ * document 01, joins where it can be done, and asks each call for its refusals.
+ * Each call is held to its answer, and to every byte of the buffers that it may
+ * write.
  */
 #include "check.h"
 
@@ -16,6 +17,7 @@ static const uint8_t sum[CELLS] = {0, 1, 1, 2};
 
 /* Buffers to write: each is longer than a call asks for. */
 static uint8_t shape[16], lower[16], upper[16], work[320], network[256], depth[16], grades[16];
+static uint8_t out[128];
 
 static void fill_buffers(void)
 {
@@ -26,6 +28,7 @@ static void fill_buffers(void)
     memset(network, FILL, sizeof network);
     memset(depth, FILL, sizeof depth);
     memset(grades, FILL, sizeof grades);
+    memset(out, FILL, sizeof out);
 }
 
 /* The bytes wanted stand at the front of a buffer, and nothing behind them has changed. */
@@ -46,6 +49,7 @@ static void check_refused(const char *name, uint32_t answer, uint32_t wanted)
     check_front(name, network, sizeof network, "", 0);
     check_front(name, depth, sizeof depth, "", 0);
     check_front(name, grades, sizeof grades, "", 0);
+    check_front(name, out, sizeof out, "", 0);
 }
 
 /* Reading. */
@@ -120,6 +124,118 @@ static void reading(void)
                   GRADES_REFUSED_BUFFER);
     check_refused("three bytes for upper", read_file(file_of_e, all, 10, CELLS, CELLS - 1),
                   GRADES_REFUSED_BUFFER);
+}
+
+/* Converting, from each of the two editions. */
+
+struct edition {
+    const char *name;
+    uint32_t (*convert)(const uint8_t *, size_t, uint8_t *, size_t);
+    const uint8_t (*file)[RECORD];
+    const uint8_t (*converted)[RECORD];
+};
+
+static const struct edition from_limits = {"to_sets", grades_to_sets, file_of_e, sets_of_e};
+static const struct edition from_sets = {"from_sets", grades_from_sets, sets_of_e, file_of_e};
+
+static uint32_t convert(const struct edition *from, const void *file, size_t file_bytes,
+                        size_t out_bytes)
+{
+    fill_buffers();
+    return from->convert(file, file_bytes, out, out_bytes);
+}
+
+/* Into a buffer as long as asked, and into a longer one. */
+static void expect_converted(const struct edition *from, const void *file, const void *wanted,
+                             size_t bytes)
+{
+    check_answer(from->name, convert(from, file, bytes, bytes), 0);
+    check_front(from->name, out, sizeof out, wanted, bytes);
+    check_answer(from->name, convert(from, file, bytes, sizeof out), 0);
+    check_front(from->name, out, sizeof out, wanted, bytes);
+}
+
+/* The file of E with other bytes in its last record, from one on. */
+static void expect_unconverted(const struct edition *from, size_t byte, const char *bytes,
+                               size_t count, uint32_t wanted)
+{
+    uint8_t file[7][RECORD];
+
+    memcpy(file, from->file, sizeof file);
+    memcpy(file[6] + byte, bytes, count);
+    check_refused(from->name, convert(from, file, sizeof file, sizeof file), wanted);
+    check_refused(from->name, convert(from, file, sizeof file, 0), wanted);
+}
+
+/* What the two editions have in common. */
+static void converting(const struct edition *from)
+{
+    static const uint8_t nine_values[2][RECORD] = {{1, 0, 9}, {2, 2}};
+    const char *name = from->name;
+    size_t all = sizeof file_of_e;
+
+    expect_converted(from, from->file, from->converted, all);
+    expect_converted(from, from->file, from->file, 3 * RECORD);
+    check_refused(name, convert(from, from->file, all - 1, all), GRADES_REFUSED_FILE_LENGTH);
+    check_refused(name, convert(from, from->file, 0, 0), GRADES_REFUSED_FILE_LENGTH);
+    check_refused(name, convert(from, from->converted, all, all), GRADES_REFUSED_RECORD_BYTES);
+    check_refused(name, convert(from, from->file, 2 * RECORD, all), GRADES_REFUSED_RECORD_ORDER);
+    check_refused(name, convert(from, nine_values, 2 * RECORD, all), GRADES_REFUSED_SHAPE);
+    check_refused(name, convert(from, from->file, all, all - 1), GRADES_REFUSED_BUFFER);
+    /* A kind that there is not; bytes that must be 0. */
+    expect_unconverted(from, 0, "\5", 1, GRADES_REFUSED_RECORD_BYTES);
+    expect_unconverted(from, 4, "\1", 1, GRADES_REFUSED_RECORD_BYTES);
+    expect_unconverted(from, 7, "\1", 1, GRADES_REFUSED_RECORD_BYTES);
+    expect_unconverted(from, 10, "\1", 1, GRADES_REFUSED_RECORD_BYTES);
+    /* A value that is none; the cell before. */
+    expect_unconverted(from, 9, "\2", 1, GRADES_REFUSED_CELL_VALUES);
+    expect_unconverted(from, 8, "\0", 1, GRADES_REFUSED_CELL_VALUES);
+}
+
+/* What they do not: the byte that one names and the other does not, and grades that none can have,
+ * alone and with a value that is none. */
+static void converting_grades(void)
+{
+    expect_unconverted(&from_limits, 3, "\1", 1, GRADES_REFUSED_RECORD_BYTES);
+    expect_unconverted(&from_limits, 1, "\1\0", 2, GRADES_REFUSED_LIMITS);
+    expect_unconverted(&from_limits, 1, "\0\2", 2, GRADES_REFUSED_LIMITS);
+    expect_unconverted(&from_limits, 1, "\0\2\0\0\0\0\0\1\2", 9, GRADES_REFUSED_CELL_VALUES);
+    expect_unconverted(&from_sets, 1, "\1", 1, GRADES_REFUSED_RECORD_BYTES);
+    expect_unconverted(&from_sets, 2, "\0", 1, GRADES_REFUSED_GRADE_SET);
+    expect_unconverted(&from_sets, 2, "\4", 1, GRADES_REFUSED_GRADE_SET);
+    expect_unconverted(&from_sets, 2, "\0\0\0\0\0\0\1\2", 8, GRADES_REFUSED_CELL_VALUES);
+}
+
+/* One cell of so many grades: its limits and its set; and sets that have none. */
+static void converting_one_cell(void)
+{
+    static const uint8_t sound[][5] = {
+        {16, 0, 0, 0x01, 0x00},  {16, 0, 7, 0xff, 0x00},   {16, 7, 8, 0x80, 0x01},
+        {16, 8, 8, 0x00, 0x01},  {16, 5, 12, 0xe0, 0x1f},  {16, 1, 14, 0xfe, 0x7f},
+        {16, 0, 15, 0xff, 0xff}, {16, 15, 15, 0x00, 0x80}, {9, 0, 8, 0xff, 0x01},
+        {8, 0, 7, 0xff, 0x00},   {8, 7, 7, 0x80, 0x00},    {2, 0, 1, 0x03, 0x00},
+    };
+    static const uint8_t unsound[][3] = {
+        {16, 0x00, 0x00}, {16, 0x05, 0x00}, {16, 0x80, 0x02}, {16, 0x01, 0x80}, {16, 0xff, 0xfe},
+        {15, 0xff, 0xff}, {15, 0x00, 0x80}, {9, 0xff, 0x03},  {8, 0x80, 0x01},  {8, 0x00, 0x01},
+    };
+    size_t i;
+
+    for (i = 0; i < sizeof sound / sizeof sound[0]; i++) {
+        uint8_t file[2][RECORD] = {{2}, {3}}, of_sets[2][RECORD] = {{2}, {4}};
+        file[0][1] = of_sets[0][1] = sound[i][0];
+        memcpy(file[1] + 1, sound[i] + 1, 2);
+        memcpy(of_sets[1] + 2, sound[i] + 3, 2);
+        expect_converted(&from_limits, file, of_sets, sizeof file);
+        expect_converted(&from_sets, of_sets, file, sizeof file);
+    }
+    for (i = 0; i < sizeof unsound / sizeof unsound[0]; i++) {
+        uint8_t of_sets[2][RECORD] = {{2}, {4}};
+        of_sets[0][1] = unsound[i][0];
+        memcpy(of_sets[1] + 2, unsound[i] + 1, 2);
+        check_refused("a set", convert(&from_sets, of_sets, sizeof of_sets, sizeof out),
+                      GRADES_REFUSED_GRADE_SET);
+    }
 }
 
 /* Joins: both calls of a gate, the first where g is NULL. */
@@ -348,6 +464,10 @@ static void checking(void)
 int main(void)
 {
     reading();
+    converting(&from_limits);
+    converting(&from_sets);
+    converting_grades();
+    converting_one_cell();
     joining(&joins[0]);
     joining(&joins[1]);
     compiling();

@@ -16,6 +16,11 @@ static uint8_t depth[GRADES_DEPTH_BYTES];
 static uint16_t numbers[MOST_CELLS + 1];
 static uint8_t grades[MOST_CELLS + 1];
 
+static unsigned two_bytes(const uint8_t *low)
+{
+    return low[0] + 256u * low[1];
+}
+
 /* A shape, by a network of one constant at a cell. */
 static void expect_shape(const char *name, uint32_t cell, uint32_t wanted)
 {
@@ -82,6 +87,43 @@ static void files(void)
                  GRADES_REFUSED_FILE_LENGTH);
 }
 
+/* Converting: the longest file, there and back. */
+
+static uint8_t of_sets[GRADES_MAX_FILE_BYTES + RECORD], back[GRADES_MAX_FILE_BYTES];
+
+static void conversions(void)
+{
+    const size_t bytes = GRADES_MAX_FILE_BYTES;
+    const char *name = "the longest file to sets";
+    uint32_t cell;
+
+    /* Up to the greatest grade, from each grade in turn. */
+    make_shape(eight_and_twos, GRADES_MAX_GRADES);
+    for (cell = 0; cell < cells; cell++) {
+        lower[cell] = (uint8_t)(cell % GRADES_MAX_GRADES);
+        upper[cell] = GRADES_MAX_GRADES - 1;
+    }
+    check(make_file() == bytes, name, "not of the most bytes");
+    check_answer("a byte less to write", grades_to_sets(file, bytes, of_sets, bytes - 1),
+                 GRADES_REFUSED_BUFFER);
+    check_answer("a record more", grades_to_sets(file, bytes + RECORD, of_sets, sizeof of_sets),
+                 GRADES_REFUSED_FILE_LENGTH);
+    check_answer(name, grades_to_sets(file, bytes, of_sets, bytes), 0);
+    for (cell = 0; cell < cells; cell++) {
+        const uint8_t *record = of_sets + (size_t)(GRADES_MAX_CONDITIONS + 1 + cell) * RECORD;
+        check_answer(name, record[0], 4);
+        check_answer(name, two_bytes(record + 2), 65536u - (1u << lower[cell]));
+    }
+
+    name = "the longest file of sets";
+    check_answer("a byte less to write", grades_from_sets(of_sets, bytes, back, bytes - 1),
+                 GRADES_REFUSED_BUFFER);
+    check_answer("a record more", grades_from_sets(of_sets, bytes + RECORD, back, sizeof back),
+                 GRADES_REFUSED_FILE_LENGTH);
+    check_answer(name, grades_from_sets(of_sets, bytes, back, bytes), 0);
+    check(memcmp(back, file, bytes) == 0, name, "another file than it was made from");
+}
+
 /* Compiling, a forecast, checking and a list with exactly the bytes that they ask for. */
 
 static uint32_t compile(size_t work_bytes, size_t network_bytes)
@@ -95,11 +137,6 @@ static uint32_t forecast(size_t work_bytes, size_t depth_bytes)
 {
     return grades_forecast(shape, sizeof shape, lower, cells, upper, cells, work, work_bytes, depth,
                            depth_bytes);
-}
-
-static unsigned two_bytes(const uint8_t *low)
-{
-    return low[0] + 256u * low[1];
 }
 
 /* The depth of the last of some records, from those of the records before it. */
@@ -249,6 +286,7 @@ int main(void)
 {
     shapes();
     files();
+    conversions();
     compiling();
     outside();
     return checked("sizes");

@@ -17,6 +17,8 @@ static struct {
     size_t most;
 } calls[] = {
     {"read", read_lent, GRADES_READ_STACK_BYTES, 0},
+    {"to_sets", to_sets_lent, GRADES_READ_STACK_BYTES, 0},
+    {"from_sets", from_sets_lent, GRADES_READ_STACK_BYTES, 0},
     {"join_max_first", join_max_first_lent, GRADES_JOIN_STACK_BYTES, 0},
     {"join_max_second", join_max_second_lent, GRADES_JOIN_STACK_BYTES, 0},
     {"join_min_first", join_min_first_lent, GRADES_JOIN_STACK_BYTES, 0},
@@ -29,6 +31,8 @@ static struct {
 };
 enum {
     READ,
+    TO_SETS,
+    FROM_SETS,
     JOIN_MAX,
     JOIN_MIN = JOIN_MAX + 2,
     COMPILE = JOIN_MIN + 2,
@@ -110,10 +114,26 @@ static uint8_t depth[GRADES_DEPTH_BYTES];
 static uint16_t numbers[4 * MOST_CELLS];
 static uint8_t grades[4 * MOST_CELLS];
 static uint8_t read_shape[GRADES_SHAPE_BYTES];
+static uint8_t of_sets[GRADES_MAX_FILE_BYTES], back[GRADES_MAX_FILE_BYTES];
 static uint8_t first_lower[MOST_CELLS], first_upper[MOST_CELLS];
 static uint8_t second_lower[MOST_CELLS], second_upper[MOST_CELLS];
 
 #define WHOLE(buffer) buffer, sizeof buffer
+
+/* The file that was made, to sets and back. */
+static void converting(size_t file_bytes)
+{
+    struct lent there[] = {{WHOLE(file)}, {WHOLE(of_sets)}};
+    struct lent again[] = {{WHOLE(of_sets)}, {WHOLE(back)}};
+
+    there[0].bytes = again[0].bytes = file_bytes;
+    check_answer("to_sets", measure(TO_SETS, there), 0);
+    check_answer("from_sets", measure(FROM_SETS, again), 0);
+    check(memcmp(back, file, file_bytes) == 0, "from_sets", "another file than it was made from");
+    there[1].bytes = again[1].bytes = 0;
+    check_answer("to_sets, no room", measure(TO_SETS, there), GRADES_REFUSED_BUFFER);
+    check_answer("from_sets, no room", measure(FROM_SETS, again), GRADES_REFUSED_BUFFER);
+}
 
 static void reading(void)
 {
@@ -124,6 +144,7 @@ static void reading(void)
     check_answer("read", measure(READ, lent), 0);
     lent[1].bytes = 0;
     check_answer("read, no shape", measure(READ, lent), GRADES_REFUSED_BUFFER);
+    converting(lent[0].bytes);
 }
 
 /* Both calls of a gate, for several sets; g is the first block's lower limits.

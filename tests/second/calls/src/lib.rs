@@ -33,6 +33,25 @@ pub struct Limits<'a> {
     pub upper: &'a mut [u8],
 }
 
+/// What the records of cells in a table file say: a lower and an upper grade, or, as the spreadsheet has it, a set of
+/// grades.
+#[derive(Clone, Copy, Debug, PartialEq, Eq)]
+pub enum Edition {
+    Limits,
+    Sets,
+}
+
+impl Edition {
+    pub const BOTH: [Edition; 2] = [Edition::Limits, Edition::Sets];
+
+    pub fn other(self) -> Edition {
+        match self {
+            Edition::Limits => Edition::Sets,
+            Edition::Sets => Edition::Limits,
+        }
+    }
+}
+
 /// What is added to a refusal's number in the answer of a single evaluation, and of every other call.
 pub const REFUSED_EVALUATION: u32 = 256;
 pub const REFUSED: u32 = 65_536;
@@ -43,6 +62,8 @@ pub const NO_CELL: u8 = 255;
 pub trait Calls {
     /// Writes the shape's ten bytes and the limits; answers 0.
     fn read(&self, file: &[u8], shape: &mut [u8], limits: Limits) -> u32;
+    /// Writes the file of the other edition that a file of this one becomes; answers 0.
+    fn convert(&self, from: Edition, file: &[u8], out: &mut [u8]) -> u32;
     /// Writes the first block's limits; answers 0.
     fn join_first(&self, gate: Gate, table: Table, sets: Sets, limits: Limits) -> u32;
     /// Writes the second block's limits, for the first block given; answers 0.

@@ -1,11 +1,12 @@
 //! The proved library through its C interface.
 
-use crate::{Calls, Gate, Limits, Sets, Table};
+use crate::{Calls, Edition, Gate, Limits, Sets, Table};
 
 type In = *const u8;
 type Out = *mut u8;
 type Bytes = usize;
 
+type Convert = unsafe extern "C" fn(In, Bytes, Out, Bytes) -> u32;
 type JoinFirst = unsafe extern "C" fn(In, Bytes, In, Bytes, In, Bytes, u8, u8, Out, Bytes, Out, Bytes) -> u32;
 type JoinSecond =
     unsafe extern "C" fn(In, Bytes, In, Bytes, In, Bytes, u8, u8, In, Bytes, Out, Bytes, Out, Bytes) -> u32;
@@ -13,6 +14,8 @@ type JoinSecond =
 #[rustfmt::skip]
 unsafe extern "C" {
     fn grades_read(file: In, _: Bytes, shape: Out, _: Bytes, lower: Out, _: Bytes, upper: Out, _: Bytes) -> u32;
+    fn grades_to_sets(file: In, _: Bytes, out: Out, _: Bytes) -> u32;
+    fn grades_from_sets(file: In, _: Bytes, out: Out, _: Bytes) -> u32;
     fn grades_join_max_first(
         shape: In, _: Bytes, lower: In, _: Bytes, upper: In, _: Bytes, s: u8, t: u8,
         out_lower: Out, _: Bytes, out_upper: Out, _: Bytes,
@@ -70,6 +73,14 @@ pub struct Library;
 impl Calls for Library {
     fn read(&self, file: &[u8], shape: &mut [u8], limits: Limits) -> u32 {
         call!(grades_read [file] {shape} {limits.lower} {limits.upper})
+    }
+
+    fn convert(&self, from: Edition, file: &[u8], out: &mut [u8]) -> u32 {
+        let function: Convert = match from {
+            Edition::Limits => grades_to_sets,
+            Edition::Sets => grades_from_sets,
+        };
+        call!(function [file] {out})
     }
 
     fn join_first(&self, gate: Gate, table: Table, sets: Sets, limits: Limits) -> u32 {

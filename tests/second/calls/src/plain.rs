@@ -9,7 +9,7 @@ mod network;
 mod records;
 mod shape;
 
-use crate::{Calls, Gate, Limits, REFUSED, REFUSED_EVALUATION, Sets, Table};
+use crate::{Calls, Edition, Gate, Limits, REFUSED, REFUSED_EVALUATION, Sets, Table};
 
 /// A result, or the number of the refusal.
 type Answer<T> = Result<T, u32>;
@@ -27,6 +27,10 @@ pub struct Plain;
 impl Calls for Plain {
     fn read(&self, bytes: &[u8], shape: &mut [u8], limits: Limits) -> u32 {
         answer(REFUSED, file::read(bytes, shape, limits))
+    }
+
+    fn convert(&self, from: Edition, bytes: &[u8], out: &mut [u8]) -> u32 {
+        answer(REFUSED, file::convert(from, bytes, out))
     }
 
     fn join_first(&self, gate: Gate, table: Table, sets: Sets, limits: Limits) -> u32 {

@@ -1,6 +1,6 @@
 //! Tables that own their bytes, made by rule, and their files.
 
-use crate::{Gate, Sets, Table};
+use crate::{Edition, Gate, Sets, Table};
 use std::collections::BTreeMap;
 
 /// What can be lent as a table: any bytes.
@@ -19,6 +19,17 @@ fn values(cards: &[u8], mut cell: usize) -> Vec<u8> {
         value as u8
     };
     cards.iter().map(value).collect()
+}
+
+/// What a cell's record begins with in an edition: all but its values.
+fn cell_head(edition: Edition, lower: u8, upper: u8) -> [u8; 8] {
+    match edition {
+        Edition::Limits => [3, lower, upper, 0, 0, 0, 0, 0],
+        Edition::Sets => {
+            let [low, high] = (lower..=upper).fold(0u16, |set, grade| set | 1 << grade).to_le_bytes();
+            [4, 0, low, high, 0, 0, 0, 0]
+        }
+    }
 }
 
 /// A function of seven conditions of two values, a digit for each cell.
@@ -95,9 +106,14 @@ impl OwnedTable {
     }
 
     /// The table's file; `lists` decides for each cell that has the limits of an unlisted one whether it is listed.
-    pub fn file(&self, mut lists: impl FnMut() -> bool) -> Vec<u8> {
+    pub fn file(&self, lists: impl FnMut() -> bool) -> Vec<u8> {
+        self.file_of(Edition::Limits, lists)
+    }
+
+    /// The same in an edition.
+    pub fn file_of(&self, edition: Edition, mut lists: impl FnMut() -> bool) -> Vec<u8> {
         let unlisted = (1, self.shape[9] - 1);
-        self.listing(|limits| limits != unlisted || lists())
+        self.listing(edition, |limits| limits != unlisted || lists())
     }
 
     /// The file without the table's don't-cares, and the table that this file holds: at each of them 1 in place of 0.
@@ -109,11 +125,11 @@ impl OwnedTable {
                 *lower = 1;
             }
         }
-        (self.listing(|limits| limits != dont_care), held)
+        (self.listing(Edition::Limits, |limits| limits != dont_care), held)
     }
 
-    /// A file with those of the table's cells that are chosen by their limits.
-    fn listing(&self, mut chosen: impl FnMut((u8, u8)) -> bool) -> Vec<u8> {
+    /// A file of an edition with those of the table's cells that are chosen by their limits.
+    fn listing(&self, edition: Edition, mut chosen: impl FnMut((u8, u8)) -> bool) -> Vec<u8> {
         let cards = &self.shape[1..=self.shape[0] as usize];
         let grades = self.shape[9];
         let mut file = vec![];
@@ -127,7 +143,7 @@ impl OwnedTable {
         record(&[2, grades]);
         for (cell, (&lower, &upper)) in self.lower.iter().zip(&self.upper).enumerate() {
             if chosen((lower, upper)) {
-                record(&[&[3, lower, upper, 0, 0, 0, 0, 0], values(cards, cell).as_slice()].concat());
+                record(&[&cell_head(edition, lower, upper), values(cards, cell).as_slice()].concat());
             }
         }
         file

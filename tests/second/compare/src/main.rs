@@ -2,9 +2,11 @@
 //!
 //!     compare [vectors | program] [--against plain|library] [--seed N] [--seconds S | --hours H]
 //!
-//! One run is every table of the tiny shapes, tables with many stages, and what the seed decides. With a time, it goes on
-//! with new seeds. With `vectors`, it is the published tables instead; with `program`, what the program `grades` prints.
+//! One run is every table of the tiny shapes, tables with many stages, every set of grades, and what the seed decides. With
+//! a time, it goes on with new seeds. With `vectors`, it is the published tables instead; with `program`, what the
+//! programs print.
 
+mod editions;
 mod lent;
 mod program;
 mod random;
@@ -14,7 +16,8 @@ mod tables;
 mod vectors;
 
 use calls::{Calls, plain::Plain};
-use session::{Outcome, Session};
+use program::Program;
+use session::{Outcome, REFUSALS, Session};
 use std::process::ExitCode;
 use std::time::{Duration, Instant};
 
@@ -85,11 +88,12 @@ fn published(calls: &dyn Calls) -> bool {
     outcome.is_ok()
 }
 
-/// Runs of the program on the files that a seed decides; whether it printed what it should.
-fn program(seed: u64) -> bool {
-    let mut program = program::Program::new(seed);
-    let outcome = program.run();
-    conclude(&outcome, &format!("program: {} files, seed {seed}", program.files));
+/// Runs of the programs on the files that a seed decides; whether they printed what they should.
+fn programs(seed: u64) -> bool {
+    let mut programs = program::each(seed);
+    let outcome = programs.iter_mut().try_for_each(Program::run);
+    let files: u64 = programs.iter().map(|program| program.files).sum();
+    conclude(&outcome, &format!("program: {files} files, seed {seed}"));
     outcome.is_ok()
 }
 
@@ -102,7 +106,7 @@ fn compare(calls: &dyn Calls, seed: u64, with_same: bool) -> bool {
     let unseen = session.unseen();
     let refusals = match &outcome {
         Err(_) => "seen until the difference only".into(),
-        Ok(()) if unseen.is_empty() => "seen 1..12".into(),
+        Ok(()) if unseen.is_empty() => format!("seen 1..{REFUSALS}"),
         Ok(()) => format!("not seen {unseen:?}"),
     };
     let [kept, rejected] = session.with_weak_joins;
@@ -122,7 +126,7 @@ fn main() -> ExitCode {
         let equal = match part {
             // What no seed decides is compared once.
             Part::Calls => compare(&*against, seed, seed == first),
-            Part::Program => program(seed),
+            Part::Program => programs(seed),
             Part::Vectors => return exit_code(published(&*against)),
         };
         if !equal || start.elapsed() >= time {

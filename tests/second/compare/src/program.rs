@@ -1,18 +1,21 @@
-//! Runs the program `grades`, each time as a process of its own, and compares what it prints, byte for byte, with the
-//! oracle's listing and with the listings that the documents print.
+//! Runs the programs, each time as a process of its own, and compares what they print, byte for byte: the listings of
+//! `grades` with the oracle's and with those that the documents print, the files of `to_spreadsheet` and
+//! `from_spreadsheet` with those that the oracle writes.
 //!
-//! The environment variable GRADES_PROGRAM names the program, else it is target/bin/grades. This and the documents are
-//! found from the repository's root.
+//! The environment variable GRADES_PROGRAMS names the folder of the programs, else it is target/bin. This and the
+//! documents are found from the repository's root.
 
 use crate::random::Random;
 use crate::session::Outcome;
 use crate::tables::{cardinality_lists, damage, some_table};
+use calls::Edition;
 use calls::tables::OwnedTable;
 use oracle::listing::listing;
-use std::ffi::OsString;
+use oracle::{Answer, file};
+use std::collections::BTreeSet;
 use std::fs::{self, File};
 use std::io::{self, Read, Seek, SeekFrom, Write};
-use std::os::unix::process::ExitStatusExt;
+use std::path::PathBuf;
 use std::process::{Command, Output, Stdio};
 use std::thread;
 use std::time::Duration;
@@ -21,14 +24,89 @@ use std::time::Duration;
 const E: [(u8, u8); 4] = [(0, 0), (1, 1), (1, 1), (0, 0)];
 const LISTING_OF_E: &str = "0 L 0 1 0\n1 L 1 0 1\n2 MIN 0 1\n3 L 0 0 1\n4 L 1 1 0\n5 MIN 3 4\n6 MAX 2 5\nrecords 7\n";
 
-/// The refusals that a table file can get.
-const REFUSALS: std::ops::RangeInclusive<usize> = 1..=6;
+/// Bytes that a report shows of what was printed.
+const SHOWN: usize = 64;
 
+/// What is expected of a program.
+struct Expected {
+    name: &'static str,
+    /// The edition of the files that it takes.
+    takes: Edition,
+    /// What it prints for a file on standard output, or the refusal.
+    answers: fn(&[u8]) -> Answer<Vec<u8>>,
+    /// A refusal goes to standard error, and not to standard output.
+    refuses_apart: bool,
+    /// What it calls its output where that cannot be written.
+    output: &'static str,
+    /// The refusals that its files can get.
+    refusals: &'static [u32],
+}
+
+const EXPECTED: [Expected; 3] = [
+    Expected {
+        name: "grades",
+        takes: Edition::Limits,
+        answers: |bytes| listing(bytes).map(String::into_bytes),
+        refuses_apart: false,
+        output: "listing",
+        refusals: &[1, 2, 3, 4, 5, 6],
+    },
+    Expected {
+        name: "to_spreadsheet",
+        takes: Edition::Limits,
+        answers: |bytes| file::convert(file::Edition::Limits, bytes, usize::MAX),
+        refuses_apart: true,
+        output: "file",
+        refusals: &[1, 2, 3, 4, 5, 6],
+    },
+    Expected {
+        name: "from_spreadsheet",
+        takes: Edition::Sets,
+        answers: |bytes| file::convert(file::Edition::Sets, bytes, usize::MAX),
+        refuses_apart: true,
+        output: "file",
+        refusals: &[1, 2, 3, 4, 6, 13],
+    },
+];
+
+/// What a program prints on standard output, and on standard error.
+struct Printed {
+    output: Vec<u8>,
+    error: String,
+}
+
+impl Expected {
+    fn printed(&self, answer: Answer<Vec<u8>>) -> Printed {
+        match answer {
+            Ok(output) => Printed { output, error: String::new() },
+            Err(number) if self.refuses_apart => Printed { output: vec![], error: format!("refused {number}\n") },
+            Err(number) => Printed { output: format!("refused {number}\n").into_bytes(), error: String::new() },
+        }
+    }
+
+    /// The line on standard error where input or output fails.
+    fn complaint(&self, what: &str) -> String {
+        format!("{}: {what} to its end\n", self.name)
+    }
+}
+
+/// A program, and the files that it has been run on.
 pub struct Program {
-    path: OsString,
+    expected: Expected,
+    path: PathBuf,
     random: Random,
     pub files: u64,
-    seen: [bool; 7],
+    seen: BTreeSet<u32>,
+}
+
+/// All programs, each to be run on the files that this seed decides.
+pub fn each(seed: u64) -> [Program; 3] {
+    let named = std::env::var_os("GRADES_PROGRAMS").filter(|folder| !folder.is_empty());
+    let folder = PathBuf::from(named.unwrap_or("target/bin".into()));
+    EXPECTED.map(|expected| {
+        let path = folder.join(expected.name);
+        Program { expected, path, random: Random::new(seed), files: 0, seen: BTreeSet::new() }
+    })
 }
 
 /// Says what was being done when an error came up.
@@ -62,23 +140,27 @@ fn listings(text: &str) -> Vec<(&str, String)> {
     found
 }
 
-/// What differs between what was printed and what should have been.
-fn difference(printed: &[u8], wanted: &str) -> Option<String> {
-    if printed == wanted.as_bytes() {
-        return None;
-    }
-    let printed = String::from_utf8_lossy(printed);
-    let (mut printed, mut wanted) = (printed.split_inclusive('\n'), wanted.split_inclusive('\n'));
-    (1..).find_map(|line| match (printed.next(), wanted.next()) {
-        (one, two) if one == two => None,
-        (one, two) => Some(format!("line {line}: {:?}, expected {:?}", one.unwrap_or(""), two.unwrap_or(""))),
-    })
+/// What differs between what was printed and what should have been: where it begins to, and how it goes on from there.
+fn difference(printed: &[u8], wanted: &[u8]) -> Option<String> {
+    let same = printed.iter().zip(wanted).take_while(|(one, other)| one == other).count();
+    let rest = |bytes: &[u8]| bytes[same..bytes.len().min(same + SHOWN)].escape_ascii().to_string();
+    let equal = printed.len() == same && wanted.len() == same;
+    (!equal).then(|| format!("\"{}\" from byte {same} on, expected \"{}\"", rest(printed), rest(wanted)))
+}
+
+/// What is not as expected of a run.
+fn fault(output: &Output, wanted: &Printed) -> Option<String> {
+    let ended = (!output.status.success()).then(|| format!("ended with {}", output.status));
+    let printed = || difference(&output.stdout, &wanted.output).map(|difference| format!("printed {difference}"));
+    let error = || difference(&output.stderr, wanted.error.as_bytes());
+    ended.or_else(printed).or_else(|| error().map(|difference| format!("on standard error {difference}")))
 }
 
 /// The longest file. Record numbers in its network take up to four digits and two bytes.
-fn longest_file() -> Vec<u8> {
+fn longest_file(edition: Edition) -> Vec<u8> {
     let parity = |values: &[u8]| values.iter().sum::<u8>() % 2;
-    OwnedTable::by_rule(&[8, 2, 2, 2, 2, 2, 2, 2], 2, |values| (parity(values), parity(values))).file(|| true)
+    let table = OwnedTable::by_rule(&[8, 2, 2, 2, 2, 2, 2, 2], 2, |values| (parity(values), parity(values)));
+    table.file_of(edition, || true)
 }
 
 fn piped(mut command: Command) -> Command {
@@ -131,20 +213,21 @@ fn fails_midway() -> Outcome<File> {
 }
 
 impl Program {
-    pub fn new(seed: u64) -> Program {
-        let named = std::env::var_os("GRADES_PROGRAM").filter(|path| !path.is_empty());
-        let path = named.unwrap_or("target/bin/grades".into());
-        Program { path, random: Random::new(seed), files: 0, seen: [false; 7] }
-    }
-
     /// Everything that is to be tried.
     pub fn run(&mut self) -> Outcome<()> {
-        self.documents()?;
+        self.all().map_err(|report| format!("{}: {report}", self.expected.name))
+    }
+
+    fn all(&mut self) -> Outcome<()> {
+        match self.expected.name {
+            "grades" => self.documents()?,
+            _ => self.example()?,
+        }
         self.failing_input_and_output()?;
         self.lengths()?;
         self.damaged_bytes()?;
         self.every_shape()?;
-        match REFUSALS.filter(|&number| !self.seen[number]).collect::<Vec<_>>()[..] {
+        match self.expected.refusals.iter().filter(|&number| !self.seen.contains(number)).collect::<Vec<_>>()[..] {
             [] => Ok(()),
             ref unseen => Err(format!("no file was refused with {unseen:?}")),
         }
@@ -168,17 +251,11 @@ impl Program {
         piped(shell)
     }
 
-    /// Settles a run that must print this, and nothing on standard error.
-    fn settle(&mut self, file: &str, bytes: &[u8], output: Output, wanted: &str) -> Outcome<()> {
+    /// Settles a run on a file that gets this answer.
+    fn settle(&mut self, file: &str, bytes: &[u8], output: Output, answer: Answer<Vec<u8>>) -> Outcome<()> {
         self.files += 1;
-        let number = wanted.strip_prefix("refused ").and_then(|number| number.trim_end().parse::<usize>().ok());
-        if let Some(seen) = number.and_then(|number| self.seen.get_mut(number)) {
-            *seen = true;
-        }
-        let signal = output.status.signal().map(|signal| format!("ended by signal {signal}"));
-        let printed = || difference(&output.stdout, wanted).map(|difference| format!("printed {difference}"));
-        let error = || difference(&output.stderr, "").map(|difference| format!("on standard error {difference}"));
-        match signal.or_else(printed).or_else(error) {
+        self.seen.extend(answer.as_ref().err());
+        match fault(&output, &self.expected.printed(answer)) {
             None => Ok(()),
             Some(fault) => {
                 let head: Vec<String> = bytes.chunks(16).take(12).map(|record| format!("  {record:?}")).collect();
@@ -192,7 +269,7 @@ impl Program {
     fn compare(&mut self, file: &str, bytes: &[u8]) -> Outcome<()> {
         let pieces = if self.random.once_in(16) { 1 + self.random.below(5) } else { 1 };
         let output = feed(self.command(), bytes, pieces)?;
-        self.settle(file, bytes, output, &listing(bytes))
+        self.settle(file, bytes, output, (self.expected.answers)(bytes))
     }
 
     /// Document 01's own listing, and those of README.md and of examples/README.md, which has one for each example.
@@ -200,7 +277,7 @@ impl Program {
         let table = OwnedTable::by_rule(&[2, 2], 2, |values| E[values[0] as usize + 2 * values[1] as usize]);
         let bytes = table.file(|| true);
         let output = feed(self.command(), &bytes, 1)?;
-        self.settle("table E", &bytes, output, LISTING_OF_E)?;
+        self.settle("table E", &bytes, output, Ok(LISTING_OF_E.into()))?;
         let mut examples = vec![];
         for entry in during("examples", fs::read_dir("examples"))? {
             let name = during("examples", entry)?.file_name().to_string_lossy().into_owned();
@@ -221,11 +298,25 @@ impl Program {
                 let bytes = during(&path, fs::read(&path))?;
                 let input = during(&path, File::open(&path))?;
                 let output = self.on(input)?;
-                self.settle(&format!("{path} of {document}"), &bytes, output, &wanted)?;
+                self.settle(&format!("{path} of {document}"), &bytes, output, Ok(wanted.into()))?;
                 self.compare(&path, &bytes)?;
             }
         }
+        // The other files are to have a listing of numbers of every length among them.
+        assert!(listing(&longest_file(Edition::Limits)).is_ok_and(|lines| lines.ends_with("records 3055\n")));
         Ok(())
+    }
+
+    /// The example that there is in both editions.
+    fn example(&mut self) -> Outcome<()> {
+        let (from, to) = match self.expected.takes {
+            Edition::Limits => ("examples/rota.table", "examples/rota.spreadsheet"),
+            Edition::Sets => ("examples/rota.spreadsheet", "examples/rota.table"),
+        };
+        let bytes = during(from, fs::read(from))?;
+        let wanted = during(to, fs::read(to))?;
+        let output = self.on(during(from, File::open(from))?)?;
+        self.settle(from, &bytes, output, Ok(wanted))
     }
 
     /// For every list of cardinalities, rising or falling, a table and its file with some damage.
@@ -236,7 +327,7 @@ impl Program {
             }
             let grades = 2 + self.random.below(15) as u8;
             let table = some_table(&cards, grades, &mut self.random);
-            let sound = table.file(|| self.random.once_in(2));
+            let sound = table.file_of(self.expected.takes, || self.random.once_in(2));
             self.compare(&format!("cardinalities {cards:?}"), &sound)?;
             let damaged = damage(&sound, &mut self.random);
             self.compare(&format!("cardinalities {cards:?}, damaged"), &damaged)?;
@@ -244,11 +335,13 @@ impl Program {
         Ok(())
     }
 
-    /// A small file with each of its bytes changed, and with each of its records left out or repeated.
+    /// A small file with each of its bytes changed, and with each of its records left out or repeated; the same table in
+    /// the other edition.
     fn damaged_bytes(&mut self) -> Outcome<()> {
-        let sound = some_table(&[2, 3], 3, &mut self.random).file(|| true);
+        let table = some_table(&[2, 3], 3, &mut self.random);
+        let sound = table.file_of(self.expected.takes, || true);
         for at in 0..sound.len() {
-            for value in [sound[at] + 1, sound[at].wrapping_sub(1), self.random.byte()] {
+            for value in [sound[at].wrapping_add(1), sound[at].wrapping_sub(1), self.random.byte()] {
                 let mut file = sound.clone();
                 file[at] = value;
                 self.compare(&format!("byte {at} changed"), &file)?;
@@ -260,13 +353,13 @@ impl Program {
             self.compare(&format!("record {number} twice"), &[before, &rest[..16], rest].concat())?;
             self.compare(&format!("up to record {number}"), before)?;
         }
-        Ok(())
+        self.compare("the other edition", &table.file_of(self.expected.takes.other(), || true))
     }
 
     /// The longest file, and files that are longer or end within a record.
     fn lengths(&mut self) -> Outcome<()> {
-        let longest = longest_file();
-        assert!(longest.len() == 16_528 && listing(&longest).ends_with("records 3055\n"));
+        let longest = longest_file(self.expected.takes);
+        assert!(longest.len() == 16_528);
         self.compare("the longest file", &longest)?;
         for more in [1, 15, 16, 17, 100_000] {
             // What comes after the longest file looks like a record that has been there.
@@ -282,35 +375,32 @@ impl Program {
 
     /// Where reading fails nothing is printed, and where it or writing fails standard error has a line.
     fn failing_input_and_output(&mut self) -> Outcome<()> {
+        let unread = Printed { output: vec![], error: self.expected.complaint("standard input was not read") };
         for (case, output) in [
             ("a folder as standard input", self.on(during("examples", File::open("examples"))?)?),
             ("standard input that fails midway", self.on(fails_midway()?)?),
             ("standard input closed", run(self.with_closed("<&-"))?),
         ] {
-            if let Some(difference) = difference(&output.stdout, "") {
-                return Err(format!("{case}: printed {difference}"));
+            if let Some(fault) = fault(&output, &unread) {
+                return Err(format!("{case}: {fault}"));
             }
-            one_line_of_error(case, &output)?;
         }
-        let sound = some_table(&[2, 3, 2], 4, &mut self.random).file(|| true);
-        for (file, bytes) in [("a table", &sound[..]), ("the longest file", &longest_file()), ("a refused file", &[0])]
-        {
+        let sound = some_table(&[2, 3, 2], 4, &mut self.random).file_of(self.expected.takes, || true);
+        let longest = longest_file(self.expected.takes);
+        for (file, bytes) in [("a table", &sound[..]), ("the longest file", &longest), ("a refused file", &[0])] {
+            let mut wanted = self.expected.printed((self.expected.answers)(bytes));
+            if !wanted.output.is_empty() {
+                wanted.error = self.expected.complaint(&format!("the {} was not written", self.expected.output));
+                wanted.output.clear();
+            }
             let mut full = self.command();
             full.stdout(during("/dev/full", File::options().write(true).open("/dev/full"))?);
-            let output = feed(full, bytes, 1)?;
-            one_line_of_error(&format!("{file}, standard output full"), &output)?;
-            let output = feed(self.with_closed(">&-"), bytes, 1)?;
-            one_line_of_error(&format!("{file}, standard output closed"), &output)?;
+            for (case, command) in [("full", full), ("closed", self.with_closed(">&-"))] {
+                if let Some(fault) = fault(&feed(command, bytes, 1)?, &wanted) {
+                    return Err(format!("{file}, standard output {case}: {fault}"));
+                }
+            }
         }
         Ok(())
     }
-}
-
-fn one_line_of_error(case: &str, output: &Output) -> Outcome<()> {
-    let text = String::from_utf8_lossy(&output.stderr);
-    let one_line = text.ends_with('\n') && text.lines().count() == 1 && !text.trim().is_empty();
-    if let Some(signal) = output.status.signal() {
-        return Err(format!("{case}: ended by signal {signal}"));
-    }
-    if one_line { Ok(()) } else { Err(format!("{case}: on standard error {text:?}, expected one line")) }
 }

@@ -1,10 +1,11 @@
 //! What a run compares.
 
+use crate::editions;
 use crate::random::Random;
 use crate::session::{Block, Join, Outcome, Session, compile_rooms};
 use crate::tables::{all_tables, cardinality_lists, damage, joined_table, some_table, ungrouped_table};
 use calls::tables::{OwnedTable, with_most_stages};
-use calls::{Gate, Sets};
+use calls::{Edition, Gate, Sets};
 
 const GATES: [Gate; 2] = [Gate::Max, Gate::Min];
 /// Values that a byte is changed to, beside its neighbours and noise.
@@ -12,7 +13,7 @@ const WRONG: [u8; 9] = [0, 1, 2, 3, 4, 8, 9, 16, 255];
 /// How many numbers a list has: none, one, some, or several hundred.
 const LISTED: [usize; 4] = [0, 1, 9, 400];
 
-/// What no seed decides: everything that the tiny shapes have, and the tables with most stages.
+/// What no seed decides: everything that the tiny shapes have, the tables with most stages, and every set of grades.
 pub fn same(session: &mut Session) -> Outcome<()> {
     for (cards, grades) in [(&[2, 2][..], 2), (&[2, 2], 3), (&[2, 3], 2), (&[2, 2, 2], 2)] {
         for table in all_tables(cards, grades) {
@@ -22,7 +23,7 @@ pub fn same(session: &mut Session) -> Outcome<()> {
     for (_, table) in with_most_stages() {
         whole_table(session, &table)?;
     }
-    Ok(())
+    editions::every_cell(session)
 }
 
 /// A round of cases that the session's seed decides.
@@ -47,18 +48,20 @@ fn every_shape(session: &mut Session) -> Outcome<()> {
             let grades = 2 + session.random.below(15) as u8;
             let table = some_table(cards, grades, &mut session.random);
             whole_table(session, &table)?;
-            let sound = table.file(|| session.random.once_in(2));
-            for _ in 0..8 {
-                let damaged = damage(&sound, &mut session.random);
-                session.read(&damaged, [10, 1024, 1024])?;
+            for edition in Edition::BOTH {
+                let sound = table.file_of(edition, || session.random.once_in(2));
+                for _ in 0..8 {
+                    let damaged = damage(&sound, &mut session.random);
+                    session.try_file(&damaged)?;
+                }
             }
         }
     }
     Ok(())
 }
 
-/// Its file, with and without its don't-cares, its network, foretold and compiled, and its joins, in buffers that are now
-/// and then longer than asked.
+/// Its file, with and without its don't-cares and in both editions, its network, foretold and compiled, and its joins, in
+/// buffers that are now and then longer than asked.
 fn whole_table(session: &mut Session, table: &OwnedTable) -> Outcome<()> {
     let cells = table.cells();
     let read_rooms = [10, cells, cells].map(|asked| longer(asked, &mut session.random));
@@ -67,6 +70,9 @@ fn whole_table(session: &mut Session, table: &OwnedTable) -> Outcome<()> {
     session.read_back(&bytes, read_rooms, table)?;
     let (sparse, held) = table.without_dont_cares();
     session.read_back(&sparse, read_rooms, &held)?;
+    session.convert_both_ways(&bytes)?;
+    session.convert_both_ways(&sparse)?;
+    editions::both_files(session, table)?;
     let network = session.compile(table, rooms)?.unwrap_or_default();
     let work = network.len() / 16 + session.random.below(3);
     session.check(&network, table, work)?;
@@ -182,31 +188,40 @@ fn small_tables(random: &mut Random) -> Vec<OwnedTable> {
 
 fn damaged_files(session: &mut Session) -> Outcome<()> {
     for table in small_tables(&mut session.random) {
-        let sound = table.file(|| session.random.once_in(2));
-        let read = |session: &mut Session, file: &[u8]| session.read(file, [10, 1024, 1024]);
-        for at in 0..sound.len() {
-            for value in wrong_values(sound[at], &mut session.random) {
-                let mut file = sound.clone();
-                file[at] = value;
-                read(session, &file)?;
-            }
+        for edition in Edition::BOTH {
+            let sound = table.file_of(edition, || session.random.once_in(2));
+            damaged_file(session, &sound)?;
+            editions::faulty_cells(session, &table, edition)?;
         }
-        for length in 0..sound.len() {
-            read(session, &sound[..length])?;
-        }
-        let records: Vec<&[u8]> = sound.chunks(16).collect();
-        for one in 0..records.len() {
-            read(session, &[&records[..one], &records[one + 1..]].concat().concat())?;
-            for two in 0..=records.len() {
-                let mut moved = records.clone();
-                moved.insert(two, records[one]);
-                read(session, &moved.concat())?;
-                moved.remove(if two <= one { one + 1 } else { one });
-                read(session, &moved.concat())?;
-            }
-        }
+        editions::exchanged_bytes(session, &table)?;
     }
     large_files(session)
+}
+
+/// A file with each of its bytes changed, cut off everywhere, and with a record left out, repeated or moved.
+fn damaged_file(session: &mut Session, sound: &[u8]) -> Outcome<()> {
+    for at in 0..sound.len() {
+        for value in wrong_values(sound[at], &mut session.random) {
+            let mut file = sound.to_vec();
+            file[at] = value;
+            session.try_file(&file)?;
+        }
+    }
+    for length in 0..sound.len() {
+        session.try_file(&sound[..length])?;
+    }
+    let records: Vec<&[u8]> = sound.chunks(16).collect();
+    for one in 0..records.len() {
+        session.try_file(&[&records[..one], &records[one + 1..]].concat().concat())?;
+        for two in 0..=records.len() {
+            let mut moved = records.clone();
+            moved.insert(two, records[one]);
+            session.try_file(&moved.concat())?;
+            moved.remove(if two <= one { one + 1 } else { one });
+            session.try_file(&moved.concat())?;
+        }
+    }
+    Ok(())
 }
 
 /// Files at the limits of length and shape, and random damage to files of any size.
@@ -217,23 +232,24 @@ fn large_files(session: &mut Session) -> Outcome<()> {
         [&[8, 8, 8, 2][..], &[8, 8, 8, 3], &[2; 8], &[2; 9], &[8, 2, 2, 2, 2, 2, 2, 2], &[7, 7, 7, 3], &[4; 5], &[4; 6]]
     {
         let head: Vec<u8> = cards.iter().enumerate().flat_map(|(number, &card)| condition(number, card)).collect();
-        session.read(&[head, grades.clone()].concat(), [10, 1024, 1024])?;
+        session.try_file(&[head, grades.clone()].concat())?;
     }
     for cards in [&[2, 2, 2, 2, 2, 2, 2, 8][..], &[8, 8, 8, 2], &[5, 5, 5, 5]] {
         let table = OwnedTable::by_rule(cards, 3, |_| (1, 2));
-        let sound = table.file(|| session.random.once_in(2));
-        session.read(&sound, [10, 1024, 1024])?;
-        for more in [1, 16, 32] {
-            session.read(&[sound.clone(), vec![0; more]].concat(), [10, 1024, 1024])?;
-            session.read(&[sound.clone(), sound[sound.len() - more.min(16)..].to_vec()].concat(), [10, 1024, 1024])?;
-        }
-        for _ in 0..200 {
-            let damaged = damage(&sound, &mut session.random);
-            session.read(&damaged, [10, 1024, 1024])?;
+        for edition in Edition::BOTH {
+            let sound = table.file_of(edition, || session.random.once_in(2));
+            session.try_file(&sound)?;
+            for more in [1, 16, 32] {
+                session.try_file(&[sound.clone(), vec![0; more]].concat())?;
+                session.try_file(&[sound.clone(), sound[sound.len() - more.min(16)..].to_vec()].concat())?;
+            }
+            for _ in 0..200 {
+                let damaged = damage(&sound, &mut session.random);
+                session.try_file(&damaged)?;
+            }
         }
     }
-    session.read(&[0; 16_528 + 16], [10, 1024, 1024])?;
-    Ok(())
+    session.try_file(&[0; 16_528 + 16])
 }
 
 /// Every byte of a network changed, each time evaluated and checked.
@@ -294,6 +310,7 @@ fn lent_lengths(session: &mut Session) -> Outcome<()> {
             bytes.resize(length, 1);
             bytes
         };
+        session.convert_both_ways(&bytes)?;
         for (buffer, rooms) in around_each([10, cells, cells]) {
             session.read(&bytes, rooms)?;
             let mut short = table.clone();

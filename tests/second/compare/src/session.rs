@@ -3,7 +3,7 @@
 use crate::lent::{Lent, Returned};
 use crate::random::Random;
 use calls::tables::OwnedTable;
-use calls::{Calls, Gate, Limits, NO_CELL, REFUSED, REFUSED_EVALUATION, Sets, Table};
+use calls::{Calls, Edition, Gate, Limits, NO_CELL, REFUSED, REFUSED_EVALUATION, Sets, Table};
 use oracle::network::Record;
 use oracle::stages::WeakJoins;
 use oracle::{Answer, file, join, network, refusal, stages};
@@ -21,11 +21,14 @@ pub struct Join {
 /// Lower and upper grades of a block.
 pub type Block = [Vec<u8>; 2];
 
+/// How many refusals there are: they are numbered from 1.
+pub const REFUSALS: usize = refusal::LAST as usize;
+
 pub struct Session<'a> {
     calls: &'a dyn Calls,
     pub random: Random,
     pub cases: u64,
-    seen: [bool; 13],
+    seen: [bool; REFUSALS + 1],
     /// The weak joins of the table that was compiled last.
     pub weak_joins: WeakJoins,
     /// In how many of the tables compiled one is kept, and in how many one is built and gives way to the split.
@@ -72,13 +75,13 @@ fn table(lent: &[Lent; 3]) -> Table<'_> {
 
 impl<'a> Session<'a> {
     pub fn new(calls: &'a dyn Calls, seed: u64) -> Session<'a> {
-        let weak_joins = WeakJoins::default();
-        Session { calls, random: Random::new(seed), cases: 0, seen: [false; 13], weak_joins, with_weak_joins: [0; 2] }
+        let (weak_joins, with_weak_joins) = (WeakJoins::default(), [0; 2]);
+        Session { calls, random: Random::new(seed), cases: 0, seen: [false; REFUSALS + 1], weak_joins, with_weak_joins }
     }
 
     /// The refusals that no call has answered.
     pub fn unseen(&self) -> Vec<usize> {
-        (1..=12).filter(|&number| !self.seen[number]).collect()
+        (1..=REFUSALS).filter(|&number| !self.seen[number]).collect()
     }
 
     fn settle<T>(
@@ -131,6 +134,49 @@ impl<'a> Session<'a> {
             Some(read) if read == *held => Ok(()),
             read => Err(format!("case {}: read {read:?} from a file of {held:?}", self.cases)),
         }
+    }
+
+    /// Converts a file into a buffer of this length; the file that it becomes, which on the way back gave the first.
+    pub fn convert(&mut self, from: Edition, bytes: &[u8], room: usize) -> Outcome<Option<Vec<u8>>> {
+        let file = Lent::holding("file", bytes, &mut self.random);
+        let mut out = Lent::noise("out", room, &mut self.random);
+        let (call, edition) = match from {
+            Edition::Limits => ("to sets", file::Edition::Limits),
+            Edition::Sets => ("from sets", file::Edition::Sets),
+        };
+        let wanted = file::convert(edition, bytes, room).map(|converted| {
+            out.expect(&converted);
+            (0, converted)
+        });
+        let answer = self.calls.convert(from, file.held(), out.held_mut());
+        let converted = self.settle(call, answer, wanted, REFUSED, &[&file, &out])?;
+        if let Some(converted) = &converted {
+            let mut back = vec![0; bytes.len()];
+            let answer = self.calls.convert(from.other(), converted, &mut back);
+            if answer != 0 || back != bytes {
+                let at = back.iter().zip(bytes).position(|(back, first)| back != first);
+                return Err(format!("case {}: {call}, and back: answer {answer}, byte {at:?} differs", self.cases));
+            }
+        }
+        Ok(converted)
+    }
+
+    /// Converts a file in both directions, each into a buffer of no bytes, of one too few, of as many as it has, and of
+    /// more.
+    pub fn convert_both_ways(&mut self, bytes: &[u8]) -> Outcome<()> {
+        let more = bytes.len() + 1 + self.random.below(40);
+        for from in Edition::BOTH {
+            for room in [0, bytes.len().saturating_sub(1), bytes.len(), more] {
+                self.convert(from, bytes, room)?;
+            }
+        }
+        Ok(())
+    }
+
+    /// Reads a file into buffers that have room for any, and converts it.
+    pub fn try_file(&mut self, bytes: &[u8]) -> Outcome<()> {
+        self.read(bytes, [10, 1024, 1024])?;
+        self.convert_both_ways(bytes)
     }
 
     /// Makes a join, for the second block where a first is given, into buffers of these lengths.

@@ -1,9 +1,10 @@
 //! Tables that source documents 000 and 001 print, and public tables whose networks they count. Each is compiled beside
 //! the oracle and held to what the documents say of it; VECTORS.md says what could be taken from them.
 
+use crate::editions::both_files;
 use crate::session::{Join, Outcome, Session, compile_rooms};
-use calls::Gate;
 use calls::tables::OwnedTable;
+use calls::{Edition, Gate};
 use oracle::stages::WeakJoins;
 
 type Limits = (u8, u8);
@@ -20,6 +21,8 @@ enum Fact {
     Ends(Gate),
     /// The network has so many gates and literals.
     Counts(usize, usize),
+    /// A file of sets that has the table as it is printed, with a gap in a set, becomes no file of ours.
+    Gap(Vec<u8>),
 }
 
 struct Vector {
@@ -104,8 +107,11 @@ fn figures_of_001() -> Vec<Vector> {
     let figure_4_8 = square(3, [[one(2), one(2), one(1)], [one(1), one(0), any], [one(2), any, one(0)]]);
     let (lower, upper) = ([[2, 2, 1], [1, 0, 0], [2, 0, 0]], [[2, 2, 1], [1, 0, 2], [2, 2, 0]]);
     let bounds = square(3, [0, 1, 2].map(|row| [0, 1, 2].map(|column| (lower[row][column], upper[row][column]))));
-    // The relation's set of 1 and 3 is filled to 1..3.
+    // The relation's set of 1 and 3 is filled to 1..3. A file of sets can hold it as it is.
     let figure_7_6 = square(4, [[one(1), one(1), (1, 3)], [(0, 3), one(1), one(2)], [one(0); 3]]);
+    let mut with_gap = figure_7_6.file_of(Edition::Sets, || true);
+    let cell = with_gap.chunks_mut(16).find(|record| record[0] == 4 && record[8..10] == [0, 2]);
+    cell.expect("every cell is listed")[2] = 1 << 1 | 1 << 3;
     let lenses = [[[2, 0], [2, 1]], [[2, 1], [2, 1]], [[2, 2], [2, 1]]];
     let table_1_2 = OwnedTable::by_rule(&[3, 2, 2], 3, |values| {
         one(lenses[values[0] as usize][values[1] as usize][values[2] as usize])
@@ -119,7 +125,7 @@ fn figures_of_001() -> Vec<Vector> {
             name: "001 figure 7.6",
             printed: "1, 2 (001)",
             table: figure_7_6,
-            facts: vec![Fact::Counts(1, 2), Fact::Ends(Gate::Min)],
+            facts: vec![Fact::Counts(1, 2), Fact::Ends(Gate::Min), Fact::Gap(with_gap)],
         },
         Vector {
             name: "001 table 1.2",
@@ -179,6 +185,7 @@ fn holds(session: &mut Session, table: &OwnedTable, network: &[u8], fact: &Fact)
         Fact::First(join, wanted) => block(join, None, wanted, session),
         Fact::Second(join, first, wanted) => block(join, Some(first), wanted, session),
         Fact::Ends(gate) => Ok(network[network.len() - 16] == if *gate == Gate::Min { 2 } else { 3 }),
+        Fact::Gap(file) => Ok(session.convert(Edition::Sets, file, file.len())?.is_none()),
         Fact::Counts(gates, literals) => Ok(count(network, &[2, 3]) == *gates && count(network, &[1]) == *literals),
     }
 }
@@ -198,10 +205,11 @@ fn compile(session: &mut Session, table: &OwnedTable) -> Outcome<Vec<u8>> {
 }
 
 /// Reads a table's files: with every cell, which gives the table back, and without its don't-cares. Of these: how many
-/// there are, and the records of the network if they are not listed.
+/// there are, and the records of the network if they are not listed. The first is converted as well, and back.
 fn unlisted(session: &mut Session, table: &OwnedTable) -> Outcome<String> {
     let rooms = [10, table.cells(), table.cells()];
     session.read_back(&table.file(|| true), rooms, table)?;
+    both_files(session, table)?;
     let (sparse, held) = table.without_dont_cares();
     session.read_back(&sparse, rooms, &held)?;
     match table.lower.iter().zip(&held.lower).filter(|(printed, held)| printed != held).count() {

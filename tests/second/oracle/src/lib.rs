@@ -15,7 +15,7 @@ pub mod stages;
 
 use std::collections::BTreeMap;
 
-/// The numbers of document 01, section "Places where a call stops".
+/// The numbers of document 01, section "Places where a call stops", and that of request 6.
 pub mod refusal {
     pub const FILE_LENGTH: u32 = 1;
     pub const RECORD_BYTES: u32 = 2;
@@ -29,6 +29,8 @@ pub mod refusal {
     pub const SHORT_BUFFER: u32 = 10;
     pub const NETWORK: u32 = 11;
     pub const CELL_NUMBER: u32 = 12;
+    pub const GRADE_SET: u32 = 13;
+    pub const LAST: u32 = GRADE_SET;
 }
 
 /// A result, or the number of the refusal.

@@ -3,12 +3,8 @@
 use crate::network::Record;
 use crate::{Answer, Gate, Shape, file, stages};
 
-/// The whole output for a table file.
-pub fn listing(bytes: &[u8]) -> String {
-    network(bytes).unwrap_or_else(|number| format!("refused {number}\n"))
-}
-
-fn network(bytes: &[u8]) -> Answer<String> {
+/// The lines for a table file that is not refused.
+pub fn listing(bytes: &[u8]) -> Answer<String> {
     let read = file::read(bytes, usize::MAX, usize::MAX, usize::MAX)?;
     let shape = Shape::from_bytes(&read.shape)?;
     let lent = stages::Lent::new(&read.shape, &read.lower, &read.upper, usize::MAX);
