@@ -3,7 +3,7 @@
 use crate::report::grouped;
 use calls::plain::Plain;
 use calls::tables::{OwnedTable, with_most_stages};
-use calls::{Calls, Gate, Limits, Sets, Table};
+use calls::{Calls, Edition, Gate, Limits, Sets, Table};
 
 /// Makes the call once and gives its answer.
 pub type Call = Box<dyn FnMut(&dyn Calls) -> u32>;
@@ -47,6 +47,15 @@ fn noise_from(mut state: u32) -> impl FnMut() -> usize {
 fn random(cards: &[u8], grades: u8) -> OwnedTable {
     let mut next = noise();
     function(cards, grades, |_| next())
+}
+
+/// Any limits that there are, so that sets have any number of grades.
+fn apart(cards: &[u8], grades: u8) -> OwnedTable {
+    let mut next = noise();
+    OwnedTable::by_rule(cards, grades, |_| {
+        let [one, other] = [next(), next()].map(|grade| (grade % grades as usize) as u8);
+        (one.min(other), one.max(other))
+    })
 }
 
 /// One cell of ten has a grade; the others may leave any from the least on.
@@ -115,6 +124,17 @@ fn read(name: &str, table: OwnedTable, every: bool) -> Case {
         Box::new(move |calls| calls.read(&file, &mut shape, Limits { lower: &mut lower, upper: &mut upper }))
     };
     Case { name: format!("read {name}"), growth: None, prepare: Box::new(prepare) }
+}
+
+/// Converts the file of an edition that lists every cell of a table.
+fn convert(name: &str, table: OwnedTable, from: Edition) -> Case {
+    let prepare = move || -> Call {
+        let file = table.file_of(from, || true);
+        let mut out = vec![0; file.len()];
+        Box::new(move |calls| calls.convert(from, &file, &mut out))
+    };
+    let direction = if from == Edition::Limits { "to" } else { "from" };
+    Case { name: format!("{direction} sets, {name}"), growth: None, prepare: Box::new(prepare) }
 }
 
 /// A join; with its own first block, where one is asked for.
@@ -326,6 +346,8 @@ pub fn all() -> Vec<Case> {
         read("8 cells", parity(&[2; 3]), true),
         read("1,024 cells", random(&LARGEST, 16), true),
         read("1,024 cells, 90 % not listed", unlisted(&LARGEST, 4), false),
+        convert("1,024 cells", apart(&LARGEST, 16), Edition::Limits),
+        convert("1,024 cells", apart(&LARGEST, 16), Edition::Sets),
         join("first block, 1,024 cells", joinable(), Gate::Min, halves, false),
         join("second block, 1,024 cells", joinable(), Gate::Min, halves, true),
         join("that does not exist, 1,024 cells", parity(&LARGEST), Gate::Max, halves, false),
