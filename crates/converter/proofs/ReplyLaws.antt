@@ -1,21 +1,16 @@
 -- What a program writes, by the verdict on its file.
 use Prim.Native.Nat.{ℕ, _≤_}
 use mathlib.Core.Path.{_≡_, sym, _∙_, ap, subst}
-use mathlib.Core.Bool.{Bool}
 use mathlib.Core.List.{List, []}
 use native.Mathlib.Nat.{le-refl}
 use native.Mathlib.Omega.{arith}
-use borrow.Author.Tests.{le-leb}
 use lib.ListN.{length}
 use Rattle.io.specs.Counts.{Counts}
 use Rattle.rules.specs.declared.Edition.{Edition}
 use Rattle.rules.specs.declared.Outcome.{Outcome}
 use Rattle.rules.specs.declared.Outcome.the-variants as outcomes
 use Rattle.rules.specs.declared.Refusal as refusals
-use Rattle.rules.specs.declared.Refusal.the-variants.{ShortBuffer}
-use Rattle.rules.specs.Verdict.{accepted, unless, andThen}
-use Rattle.rules.specs.TableFile.{Seen, judgeFile}
-use Rattle.rules.specs.Editions.{fileAsOther, convertCall}
+use Rattle.rules.specs.Editions.{convertCall}
 use Rattle.rules.specs.Listing.{said, refusalLine}
 use Rattle.laws.proofs.VerdictLaws.{was-written, was-refused}
 use Rattle.editions.specs.Converting.{Converts}

@@ -1,12 +1,11 @@
 -- Records turned where they stand, one after the other, and the promise of the call, case by case.
 use Prim.Native.Nat.{ℕ, _+_, _-_, _*_, _/_, _≤_, _<_}
 use mathlib.Core.Path.{_≡_, refl, sym, _∙_, ap, ap₂, subst}
-use mathlib.Core.Bool.{not, _&&_}
 use mathlib.Core.List.{List, [], _∷_, _++_, append-assoc}
 use native.Mathlib.Omega.{arith}
-use borrow.Author.Tests.{le-leb, lt-leb}
+use borrow.Author.Tests.{lt-leb}
 use borrow.Rule.Slice.PartMut.{putMid, post-is}
-use lib.Dec.{T, T-not, eqb, leb, ltb}
+use lib.Dec.{T, leb}
 use lib.ListN.{length, take, drop, set, length-append, length-drop}
 use lib.Seq.{take-at, drop-at, take-length, drop-drop}
 use Rattle.rules.specs.declared.Edition.{Edition}
@@ -15,12 +14,10 @@ use Rattle.rules.specs.declared.Outcome.the-variants.{Written, Refused}
 use Rattle.rules.specs.declared.Refusal.{Refusal}
 use Rattle.rules.specs.declared.Refusal.the-variants.{ShortBuffer}
 use Rattle.rules.specs.Bytes.{at, recordAt, mapRecords, word}
-use Rattle.rules.specs.GradeSet.{span, leastGrade, greatestGrade}
 use Rattle.rules.specs.Verdict.{Verdict, accepted, refused, unless, andThen, answerOf, outcomeOf}
 use Rattle.rules.specs.TableFile.{Seen, cellKind, cellSound, judgeFile}
 use Rattle.rules.specs.Editions.{recordAsOther, fileAsOther, convertCall, Converted}
-use Rattle.laws.proofs.TestLaws.{and-l, by-order}
-use Rattle.laws.proofs.VerdictLaws.{row-passed, row-pass, row-stop, then-passed, accepted-same, outcome-means, was-written}
+use Rattle.laws.proofs.VerdictLaws.{row-passed, row-stop, then-passed, accepted-same, outcome-means, was-written}
 use Rattle.laws.proofs.GradeSetLaws.{span-some, sound-spans}
 use Rattle.laws.proofs.RecordLaws.{record-length, record-front, map-next, map-length, map-front}
 use Rattle.tables.specs.Part.{part}
@@ -77,7 +74,7 @@ module _ (e : Edition) (file : List ℕ) (s : Seen) (q : judgeFile e file ≡ ac
   pub whole : 16 * (length file / 16) ≡ length file
   whole = all-records (accepted-file e file s q)
 
-  -- also behind a copy of it
+  -- it and what it is turned into, at a buffer's front
   pub all-turnable : (rest : List ℕ) → AllTurnable e (file ++ rest) (length file / 16)
   all-turnable rest k h =
       let a = accepted-file e file s q in
@@ -89,7 +86,7 @@ module _ (e : Edition) (file : List ℕ) (s : Seen) (q : judgeFile e file ≡ ac
       ap₂ (λ (x y : List ℕ). x ++ y) (map-front (recordAsOther e) file rest 0 (length file / 16) (omega arith)) (drop-at file rest (16 * (length file / 16)) (sym whole))
 
 module _ (e : Edition) (file out : List ℕ) (bytes : (j : ℕ) → at file j < 256) where
-  pub accepted-converted : (turned : List ℕ) → convertCall e file (length out) ≡ accepted turned → Converted e file turned
+  accepted-converted : (turned : List ℕ) → convertCall e file (length out) ≡ accepted turned → Converted e file turned
   accepted-converted turned q =
       let p = then-passed (judgeFile e file) (λ s. unless (leb (length file) (length out)) ShortBuffer (accepted (fileAsOther e file))) q in
       let l = row-passed (leb (length file) (length out)) ShortBuffer (accepted (fileAsOther e file)) (p .2) in
@@ -124,7 +121,6 @@ module _ (e : Edition) (file out : List ℕ) (bytes : (j : ℕ) → at file j < 
     convert-short h = by-verdict (refused ShortBuffer) (ap rows q ∙ row-stop ShortBuffer _ (lt-leb (length file) (length out) h))
 
     pub convert-written : length file ≤ length out → (out′ : List ℕ) → out′ ≡ fileAsOther e file ++ drop (length file) out → Converts e file out Written out′
-    unfolding rows
     convert-written h out′ w =
         let v : convertCall e file (length out) ≡ accepted (fileAsOther e file) = with-room e file (length out) h ∙ ap (λ (v : Verdict Seen). andThen v (λ t. accepted (fileAsOther e file))) q in
         let c = accepted-converted (fileAsOther e file) v in

@@ -6,7 +6,7 @@ use mathlib.Core.List.{List, [], _∷_}
 use native.Mathlib.Nat.{zero-add, mod-add-div}
 use native.Mathlib.Omega.{arith}
 use borrow.Author.Tests.{eq-eqb, ne-eqb, le-leb}
-use lib.Dec.{T, eqb, eqb→eq, leb, ltb, leb→le, le→leb, ltb→lt, lt→ltb}
+use lib.Dec.{T, eqb, eqb→eq, leb, ltb, le→leb, lt→ltb}
 use lib.ListN.{length, drop, length-drop}
 use lib.Seq.{take-length, getD-take, getD-drop, getD-append-add}
 use Rattle.rules.specs.declared.Edition.{Edition}
@@ -27,7 +27,7 @@ use Rattle.laws.proofs.RecordLaws.{record-length, map-length, map-at, map-file}
 use Rattle.laws.proofs.GradeSetLaws.{span-has, span-least, span-greatest, sound-spans, span-sound}
 use Rattle.table_records.specs.Records.{InRange}
 use Rattle.table_records.proofs.SeenLaws.{Step, accepted-step, kept-start, record-by, as-cell}
-use Rattle.table_file.proofs.FileLaws.{CellIn, Accepted, accepted-file, all-records, few-grades}
+use Rattle.table_file.proofs.FileLaws.{CellIn, Accepted, accepted-file, limits-in, all-records, few-grades}
 
 -- the call with room for the file
 pub with-room : (e : Edition) (file : List ℕ) (room : ℕ) → length file ≤ room → convertCall e file room ≡ andThen (judgeFile e file) (λ s. accepted (fileAsOther e file))
@@ -116,8 +116,9 @@ module _ (m : ℕ) (few : m ≤ 16) (a b c d : ℕ) (rest : List ℕ) where
   ours-turned : a ≡ 3 → T (eqb d 0 && zeros r 4 8) → T (leb b c && ltb c m) → Turned Ours m r
   ours-turned kind clear sound =
       let x : ℕ = span b c in
-      let ordered : b ≤ c = leb→le b c (and-l (leb b c) (ltb c m) sound) in
-      let below : c < m = ltb→lt c m (and-r (leb b c) (ltb c m) sound) in
+      let l = limits-in m r sound in
+      let ordered : b ≤ c = l .0 in
+      let below : c < m = l .1 in
       let w : x % 256 + 256 * (x / 256) ≡ x = mod-add-div x 256 in
       record {
         clear = and-r (eqb d 0) (zeros r 4 8) clear;

@@ -8,7 +8,7 @@ use lib.ListN.{length, take}
 use Rattle.rules.specs.declared.Edition.the-variants.{Ours, Spreadsheet}
 use Rattle.rules.specs.declared.Refusal.the-variants.{ShortBuffer}
 use Rattle.rules.specs.Bytes.{at, recordAt}
-use Rattle.rules.specs.Cell.{cells, has}
+use Rattle.rules.specs.Cell.{cells}
 use Rattle.rules.specs.Shape.{places}
 use Rattle.rules.specs.Limits.{limitsOf}
 use Rattle.rules.specs.Verdict.{accepted, unless}
@@ -61,7 +61,7 @@ module _ (sets file : List ℕ) (c : Converted Spreadsheet sets file) (table : S
             let low : at r 1 ≤ grade = omega (arith, o .within .0, is .0) in
             let high : grade ≤ at r 2 = omega (arith, o .within .1, is .1) in
             subst T (c .grades k grade (l .0) (l .1)) (and-i (leb (at r 1) grade) (leb grade (at r 2)) (le→leb (at r 1) grade low) (le→leb grade (at r 2) high));
-        unforeseen = λ none. o .unforeseen (λ k l. none k (lists-sets k cell l));
+        unforeseen = λ none. omega (arith, o .unforeseen (λ k l. none k (lists-sets k cell l)));
       }
 
 pub from-spreadsheet : FromSpreadsheet
