@@ -3,15 +3,17 @@ use Prim.Native.Nat.{ℕ, _-_, _*_, _≤_, max}
 use mathlib.Core.Path.{_≡_, sym, subst}
 use mathlib.Core.List.{List}
 use native.Mathlib.Omega.{arith}
+use lib.Dec.{T}
 use lib.ListN.{length}
 use Rattle.rules.specs.Cell.{cells}
 use Rattle.rules.specs.Limits.{Limits}
-use Rattle.rules.specs.Network.{networkBytes, networkRecords}
+use Rattle.rules.specs.Network.{networkBytes, networkRecords, networkSound}
 use Rattle.rules.specs.Stage.{compiled}
 use Rattle.rules.specs.Demands.{Table, compiledRecords, Compiled}
 use Rattle.laws.proofs.RunLaws.{tree-run}
 use Rattle.laws.proofs.TreeLaws.{RecordsOk, length-records, size-pos, made-records}
 use Rattle.laws.proofs.ByteLaws.{networkRecords-bytes, networkSound-bytes}
+use Rattle.laws.proofs.CeilingLaws.{sound-capped}
 use Rattle.laws.proofs.StageLaws.{compiled-ok}
 use Rattle.laws.proofs.SizeLaws.{compiled-size}
 use Rattle.laws.proofs.FuelLaws.{every-stage}
@@ -29,12 +31,16 @@ module _ (ks : List ℕ) (m : ℕ) (l : Limits) (t : Table ks m l) where
   reads : networkRecords ks (networkBytes (compiledRecords ks m l)) ≡ compiledRecords ks m l
   reads = networkRecords-bytes ks (t .few-values) m (compiledRecords ks m l) ok
 
+  sound : T (networkSound ks m (networkBytes (compiledRecords ks m l)))
+  sound = networkSound-bytes ks (t .few-values) m (compiledRecords ks m l) ok some (omega (arith, most, t .few-cells))
+
   pub compiled-all : Compiled ks m l
   compiled-all =
       record {
         within = λ c hc. rw (reads, tree-run (compiled ks m l) ks c) (compiled-ok ks m l t .within c hc);
         reads = reads;
-        sound = networkSound-bytes ks (t .few-values) m (compiledRecords ks m l) ok some (omega (arith, most, t .few-cells));
+        sound = sound;
+        capped = sound-capped ks m (networkBytes (compiledRecords ks m l)) sound;
         one = λ e. omega (arith, most, some);
         most = λ h. omega (arith, most);
         stages = every-stage ks m l t;

@@ -5,6 +5,7 @@ pub mod RecordLaws
 pub mod TableLaws
 pub mod AcceptLaws
 pub mod ByteLaws
+pub mod CeilingLaws
 pub mod CellLaws
 pub mod CompiledLaws
 pub mod DepthLaws
@@ -16,6 +17,7 @@ pub mod GroupLaws
 pub mod JoinExactLaws
 pub mod JoinLaws
 pub mod KeepLaws
+pub mod KindLaws
 pub mod LastLaws
 pub mod LineLaws
 pub mod NumberLaws

@@ -6,6 +6,7 @@ use Rattle.rules.specs.SmallListings.{SmallListings}
 use Rattle.rules.specs.SmallVisits.{Visits}
 use Rattle.rules.specs.SmallWeak.{WeakJoins}
 use Rattle.rules.specs.SmallEditions.{Conversions}
+use Rattle.rules.specs.SmallCeilings.{Ceilings}
 
 pub small-tables : Small
 small-tables =
@@ -28,3 +29,7 @@ weak-joins = (refl, refl, refl, refl, refl, refl, refl, refl, refl)
 pub conversions : Conversions
 conversions =
     (refl, refl, refl, refl, refl, refl, refl, refl, refl, refl, refl, refl, refl, refl, refl, refl, refl, refl, refl, refl, refl, refl, refl, refl, refl, refl, refl, refl, refl)
+
+pub ceilings : Ceilings
+ceilings =
+    (refl, refl, refl, refl, refl, refl, refl, refl, refl, refl, refl, refl, refl, refl, refl, refl, refl, refl, refl, refl, refl, refl, refl)

@@ -1,5 +1,5 @@
 -- Lists of bytes: what stands at a place, tests of every place, and the records of sixteen bytes that both file formats are made of.
-use Prim.Native.Nat.{ℕ, zero, suc, _+_, _-_, _*_}
+use Prim.Native.Nat.{ℕ, zero, suc, _+_, _-_, _*_, max}
 use mathlib.Core.Path.{_≡_}
 use mathlib.Core.Bool.{Bool, true, false, not, _&&_}
 use mathlib.Core.List.{List, [], _∷_, _++_}
@@ -32,6 +32,11 @@ all (suc n) p = all n p && p n
 -- the test passes at some place below n
 abbrev pub some : ℕ → (ℕ → Bool) → Bool
 some n p = not (all n (λ i. not (p i)))
+
+-- the greatest number of a list, 0 where there is none
+abbrev pub greatest : List ℕ → ℕ
+greatest [] = 0
+greatest (q ∷ qs) = max q (greatest qs)
 
 -- the numbers i, i + 1, .., n of them
 abbrev pub numbersFrom : ℕ → ℕ → List ℕ

@@ -1,5 +1,5 @@
--- What is claimed: of joins, demand 2; of a table and all its stages, demand 3.
-use Prim.Native.Nat.{ℕ, _-_, _*_, _≤_, _<_}
+-- What is claimed: of joins, demand 2; of sound networks, that ceilings bound grades; of a table and all its stages, demand 3.
+use Prim.Native.Nat.{ℕ, _-_, _*_, _/_, _≤_, _<_}
 use mathlib.Core.Path.{_≡_}
 use mathlib.Core.Bool.{Bool, true, false}
 use mathlib.Core.List.{List}
@@ -12,7 +12,7 @@ use Rattle.rules.specs.Cell.{Blind, Positive, cells, card, present, widt
 use Rattle.rules.specs.Shape.{maxConditions, maxCardinality, maxGrades, maxCells}
 use Rattle.rules.specs.Limits.{Limits}
 use Rattle.rules.specs.Join.{joinExists, firstLimits, secondLimits}
-use Rattle.rules.specs.Network.{Record, combine, networkBytes, networkRecords, networkSound, evaluate}
+use Rattle.rules.specs.Network.{Record, combine, networkBytes, networkRecords, networkSound, ceilingAt, recordGradeAt, evaluate}
 use Rattle.rules.specs.Tree.{fixed, lookup, records}
 use Rattle.rules.specs.Stage.{Stage, left, split, joining, chosen, weakly, tried, firstStage, secondStage, cofactorStage, computed, choiceTree, mayLeft, treeOf, wholeTable, compiled}
 
@@ -57,6 +57,12 @@ pub record JoinExact (op : Gate) (ks : List ℕ) (m s t : ℕ) (l : Limits) : Ty
   -- the second block's, exactly those that complete the first block given
   pub second-exact : T (joinExists op ks m s t l) → (g : List ℕ) → Grades ks m (at g) → Blind ks t (at g) → Inside ks (firstLimits op ks m s t l) (at g)
       → (h : ℕ → ℕ) → Grades ks m h → Blind ks s h → Inside ks (secondLimits op ks m s t l g) h ↔ Pair op ks m s t l (at g) h
+
+-- Request 7, ceilings.
+
+-- at every cell the grade of each record is at most its ceiling
+abbrev pub Capped : List ℕ → List ℕ → Type 0
+Capped ks net = (c k : ℕ) → k < length net / 16 → recordGradeAt ks net c k ≤ ceilingAt net k
 
 -- Demand 3, stages.
 
@@ -131,6 +137,7 @@ pub record Compiled (ks : List ℕ) (m : ℕ) (l : Limits) : Type 0 where
   pub within : Inside ks l (evaluate ks (networkBytes (compiledRecords ks m l)))
   pub sound : T (networkSound ks m (networkBytes (compiledRecords ks m l)))
   pub reads : networkRecords ks (networkBytes (compiledRecords ks m l)) ≡ compiledRecords ks m l
+  pub capped : Capped ks (networkBytes (compiledRecords ks m l))
   pub one : cells ks ≡ 1 → length (compiledRecords ks m l) ≡ 1
   pub most : 2 ≤ cells ks → length (compiledRecords ks m l) ≤ 3 * cells ks - 5
   pub stages : EveryStage ks m l

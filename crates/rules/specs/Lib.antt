@@ -26,3 +26,4 @@ pub mod SmallVisits
 pub mod Listing
 pub mod SmallListings
 pub mod SmallEditions
+pub mod SmallCeilings

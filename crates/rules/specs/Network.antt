@@ -1,4 +1,5 @@
 -- 01, Networks: records, their bytes, which are faulty, and what the gates mean at a cell. Of any network, whoever made it.
+-- Request 7: byte 2 of a record is its ceiling.
 use Prim.Native.Nat.{ℕ, zero, suc, _+_, _-_, _/_, _%_, min, max}
 use mathlib.Core.Bool.{Bool, cond, _&&_, _||_}
 use mathlib.Core.List.{List, [], _∷_, _++_}
@@ -6,7 +7,7 @@ use lib.Dec.{leb, ltb, eqb}
 use lib.ListN.{length, getD, replicate, take}
 use Rattle.rules.specs.declared.Gate.{Gate}
 use Rattle.rules.specs.declared.Gate.the-variants.{Min, Max}
-use Rattle.rules.specs.Bytes.{at, tabulate, all, recordAt, word}
+use Rattle.rules.specs.Bytes.{at, tabulate, all, greatest, recordAt, word}
 use Rattle.rules.specs.Cell.{card, present, value}
 
 -- a constant's grade; a literal's condition and its grade for each value; a gate's left and right record.
@@ -21,16 +22,31 @@ abbrev pub kindOf : Gate → ℕ
 kindOf Min = 2
 kindOf Max = 3
 
--- a record's sixteen bytes
-abbrev pub recordBytes : Record → List ℕ
-recordBytes (constant q) = 0 ∷ q ∷ replicate 14 0
-recordBytes (literal i gs) = 1 ∷ i ∷ replicate 6 0 ++ take 8 (gs ++ replicate 8 0)
-recordBytes (gate op l r) = kindOf op ∷ 0 ∷ 0 ∷ 0 ∷ l % 256 ∷ l / 256 ∷ r % 256 ∷ r / 256 ∷ replicate 8 0
+-- a gate of two grades
+abbrev pub combine : Gate → ℕ → ℕ → ℕ
+combine Min = min
+combine Max = max
+
+-- a record's ceiling, from the ceilings of other records by their numbers
+abbrev pub recordCeiling : (ℕ → ℕ) → Record → ℕ
+recordCeiling tops (constant q) = q
+recordCeiling tops (literal i gs) = greatest gs
+recordCeiling tops (gate op l r) = combine op (tops l) (tops r)
+
+-- a record's sixteen bytes, with its ceiling
+abbrev pub recordBytes : Record → ℕ → List ℕ
+recordBytes (constant q) top = 0 ∷ q ∷ top ∷ replicate 13 0
+recordBytes (literal i gs) top = 1 ∷ i ∷ top ∷ replicate 5 0 ++ take 8 (gs ++ replicate 8 0)
+recordBytes (gate op l r) top = kindOf op ∷ 0 ∷ top ∷ 0 ∷ l % 256 ∷ l / 256 ∷ r % 256 ∷ r / 256 ∷ replicate 8 0
+
+-- records in turn, behind others whose ceilings are `done`
+abbrev pub networkBytesFrom : List ℕ → List Record → List ℕ
+networkBytesFrom done [] = []
+networkBytesFrom done (r ∷ rs) = let top = recordCeiling (at done) r in recordBytes r top ++ networkBytesFrom (done ++ (top ∷ [])) rs
 
 -- record r at byte 16 × r
 abbrev pub networkBytes : List Record → List ℕ
-networkBytes [] = []
-networkBytes (r ∷ rs) = recordBytes r ++ networkBytes rs
+networkBytes rs = networkBytesFrom [] rs
 
 -- the record that sixteen bytes are, over the places ks
 abbrev pub recordOf : List ℕ → List ℕ → Record
@@ -52,22 +68,35 @@ networkRecords ks net = recordsFrom ks net 0 (length net / 16)
 abbrev pub named : ℕ → ℕ → Bool
 named kind j =
     eqb j 0
+    || (eqb j 2
     || cond (eqb kind 0) (eqb j 1)
     (cond (eqb kind 1) (eqb j 1 || leb 8 j)
-    (leb 4 j && leb j 7))
+    (leb 4 j && leb j 7)))
 
 -- a literal's byte for the value v: a grade, or zero past the cardinality
 abbrev pub literalByteSound : ℕ → ℕ → ℕ → ℕ → Bool
 literalByteSound k m v q = cond (ltb v k) (ltb q m) (eqb q 0)
 
--- record number k is not faulty, with m grades
-abbrev pub recordSound : List ℕ → ℕ → ℕ → List ℕ → Bool
-recordSound ks m k r =
+-- sixteen bytes are not faulty as record number k, with m grades, byte 2 aside
+abbrev pub recordFormed : List ℕ → ℕ → ℕ → List ℕ → Bool
+recordFormed ks m k r =
     ltb (at r 0) 4
     && (all 16 (λ j. named (at r 0) j || eqb (at r j) 0)
     && cond (eqb (at r 0) 0) (ltb (at r 1) m)
     (cond (eqb (at r 0) 1) (present ks (at r 1) && all 8 (λ v. literalByteSound (card ks (at r 1)) m v (at r (8 + v))))
     (ltb (word r 4) k && ltb (word r 6) k)))
+
+-- byte 2 of record k
+abbrev pub ceilingAt : List ℕ → ℕ → ℕ
+ceilingAt net k = at (recordAt net k) 2
+
+-- it is the record's ceiling, by byte 2 of the records that it names
+abbrev pub ceilingSound : List ℕ → List ℕ → ℕ → Bool
+ceilingSound ks net k = eqb (ceilingAt net k) (recordCeiling (ceilingAt net) (recordOf ks (recordAt net k)))
+
+-- record k of a network is not faulty
+abbrev pub recordSound : List ℕ → ℕ → List ℕ → ℕ → Bool
+recordSound ks m net k = recordFormed ks m k (recordAt net k) && ceilingSound ks net k
 
 abbrev pub maxRecords : ℕ
 maxRecords = 4096
@@ -76,12 +105,7 @@ maxRecords = 4096
 abbrev pub networkSound : List ℕ → ℕ → List ℕ → Bool
 networkSound ks m net =
     (ltb 0 (length net) && (eqb (length net % 16) 0 && leb (length net / 16) maxRecords))
-    && all (length net / 16) (λ k. recordSound ks m k (recordAt net k))
-
--- a gate of two grades
-abbrev pub combine : Gate → ℕ → ℕ → ℕ
-combine Min = min
-combine Max = max
+    && all (length net / 16) (recordSound ks m net)
 
 -- the grade of a record where condition i has the value v i, from the grades of the records before it
 abbrev pub recordGrade : (ℕ → ℕ) → List ℕ → Record → ℕ
@@ -98,6 +122,10 @@ run v done (r ∷ rs) = run v (done ++ (recordGrade v done r ∷ [])) rs
 abbrev pub networkGrade : List ℕ → List Record → ℕ → ℕ
 networkGrade ks rs c = let d = run (value ks c) [] rs in getD d (length d - 1) 0
 
--- the same, from the network's bytes
+-- the grade of record k at a cell, from the network's bytes
+abbrev pub recordGradeAt : List ℕ → List ℕ → ℕ → ℕ → ℕ
+recordGradeAt ks net c k = at (run (value ks c) [] (networkRecords ks net)) k
+
+-- the network's, from its bytes
 abbrev pub evaluate : List ℕ → List ℕ → ℕ → ℕ
 evaluate ks net c = networkGrade ks (networkRecords ks net) c

@@ -204,7 +204,7 @@ Small =
     × (fileNumber (headE ++ cellRecordOf 0 2 0 0) ≡ 5)
     -- networks: a literal's and a gate's bytes, E's network read back, and the rows of evaluating and checking in their order
     × (networkBytes (literal 1 (1 ∷ 0 ∷ 2 ∷ []) ∷ gate Max 258 3 ∷ [])
-    ≡ 1 ∷ 1 ∷ 0 ∷ 0 ∷ 0 ∷ 0 ∷ 0 ∷ 0 ∷ 1 ∷ 0 ∷ 2 ∷ 0 ∷ 0 ∷ 0 ∷ 0 ∷ 0 ∷ 3 ∷ 0 ∷ 0 ∷ 0 ∷ 2 ∷ 1 ∷ 3 ∷ 0 ∷ 0 ∷ 0 ∷ 0 ∷ 0 ∷ 0 ∷ 0 ∷ 0 ∷ 0 ∷ [])
+    ≡ 1 ∷ 1 ∷ 2 ∷ 0 ∷ 0 ∷ 0 ∷ 0 ∷ 0 ∷ 1 ∷ 0 ∷ 2 ∷ 0 ∷ 0 ∷ 0 ∷ 0 ∷ 0 ∷ 3 ∷ 0 ∷ 0 ∷ 0 ∷ 2 ∷ 1 ∷ 3 ∷ 0 ∷ 0 ∷ 0 ∷ 0 ∷ 0 ∷ 0 ∷ 0 ∷ 0 ∷ 0 ∷ [])
     × (tabulate 4 (evaluate (places (cardBytes two)) netE) ≡ E)
     × (evaluateNumber [] 0 0 ≡ 11)
     × (evaluateNumber (replicate 16 9) 0 4 ≡ 10)
