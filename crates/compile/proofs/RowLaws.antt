@@ -14,7 +14,7 @@ use Rattle.rules.specs.Cell.{cells}
 use Rattle.rules.specs.Limits.{Limits, limitsSound}
 use Rattle.rules.specs.Verdict.{Verdict, accepted, refused, unless, answerOf}
 use Rattle.rules.specs.Network.{Record, networkBytes, networkSound, evaluate}
-use Rattle.rules.specs.Demands.{Table, Between, compiledRecords}
+use Rattle.rules.specs.Demands.{Table, Between, compiledRecords, Capped}
 use Rattle.rules.specs.Tree.{size}
 use Rattle.rules.specs.Stage.{compiled}
 use Rattle.rules.specs.CompileCall.{mostRecords, tableRoom, compileRoom, lentLimits}
@@ -187,6 +187,7 @@ module _ (shape : Shape) (lower upper work network : List ℕ) where
               rw (getD-take (cells (placesOf shape)) lower c 0 h, getD-take (cells (placesOf shape)) upper c 0 h) at
               (subst (λ (b : List ℕ). Between (lentLimits (placesOf shape) lower upper) c (evaluate (placesOf shape) b c)) (sym front) (d .within c h));
           sound = subst (λ (b : List ℕ). T (networkSound (placesOf shape) (shape .m) b)) (sym front) (d .sound);
+          capped = subst (Capped (placesOf shape)) (sym front) (d .capped);
           one = λ e. w .count ∙ d .one e;
           most = λ h. let e = w .count in let q = d .most h in omega arith;
           stages = d .stages;

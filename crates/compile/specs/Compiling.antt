@@ -10,7 +10,7 @@ use Rattle.rules.specs.Cell.{cells}
 use Rattle.rules.specs.Limits.{limitsOf, limitsSound}
 use Rattle.rules.specs.Verdict.{Verdict, accepted, refused, Answer, granted, denied, answerOf}
 use Rattle.rules.specs.Network.{Record, networkBytes, networkSound, evaluate}
-use Rattle.rules.specs.Demands.{Inside, EveryStage, compiledRecords, Compiled}
+use Rattle.rules.specs.Demands.{Inside, Capped, EveryStage, compiledRecords, Compiled}
 use Rattle.rules.specs.CompileCall.{compileWork, tableRoom, lentLimits, compileCall}
 use Rattle.rules.specs.Forecast.{networkDepth}
 use Rattle.rules.specs.Bytes.{Past}
@@ -56,12 +56,13 @@ written n network = take (16 * n) network
 
 -- demand 3 of a table and the n records that stand in the network buffer. It holds of the records that the table's stages give, and
 -- these are the bytes of those: so every cell's grade, as evaluation reads the bytes, is within the cell's limits, no record is faulty,
--- and there are no more of them than 01 allows
+-- none has a grade above its byte 2, and there are no more of them than 01 allows
 pub record KeepsTable (shape : Shape) (lower upper : List ℕ) (n : ℕ) (network : List ℕ) : Type 0 where
   pub compiled : Compiled (placesOf shape) (shape .m) (lentLimits (placesOf shape) lower upper)
   pub bytes : written n network ≡ networkBytes (compiledRecords (placesOf shape) (shape .m) (lentLimits (placesOf shape) lower upper))
   pub within : Inside (placesOf shape) (limitsOf lower upper) (evaluate (placesOf shape) (written n network))
   pub sound : T (networkSound (placesOf shape) (shape .m) (written n network))
+  pub capped : Capped (placesOf shape) (written n network)
   pub one : cells (placesOf shape) ≡ 1 → n ≡ 1
   pub most : 2 ≤ cells (placesOf shape) → n ≤ 3 * cells (placesOf shape) - 5
   pub stages : EveryStage (placesOf shape) (shape .m) (lentLimits (placesOf shape) lower upper)

@@ -1,4 +1,3 @@
 -- Laws of text and numbers.
 pub mod DecimalLaws
 pub mod PutLaws
-pub mod KindLaws

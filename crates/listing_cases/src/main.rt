@@ -47,11 +47,14 @@ fn show_refusal(refusal: Refusal) {
 fn show_listing() {
     let mut network = [0u8; 48];
     network[1] = 15;
+    network[2] = 15;
     network[16] = 1;
     network[17] = 3;
+    network[18] = 10;
     network[24] = 10;
     network[25] = 9;
     network[32] = 3;
+    network[34] = 15;
     network[38] = 1;
     let mut out = [0u8; 200];
     let n = put_listing(&mut out, &network, 3, wide());

@@ -17,9 +17,11 @@ use Rattle.rules.specs.Limits.{Limits, limitsOf, limitsSound}
 use Rattle.rules.specs.Verdict.{Verdict, accepted, unless, roomy, verdictNumber, answerOf}
 use Rattle.rules.specs.Network.{evaluate}
 use Rattle.rules.specs.NetworkCalls.{gradeWithin, CheckResult, within, outside, checkFrom}
+use Rattle.rules.specs.Demands.{Capped}
 use Rattle.shape.specs.declared.Shape.{Shape}
 use Rattle.shape.specs.Shapes.{placesOf, isSound}
-use Rattle.laws.proofs.TestLaws.{and-l, and-r, and-i, by-order, passed}
+use Rattle.laws.proofs.CeilingLaws.{sound-capped}
+use Rattle.laws.proofs.TestLaws.{and-l, and-r, and-i, by-order, passed, passes}
 use Rattle.laws.proofs.VerdictLaws.{refused-accepted, accepted-same, row-passed, outside-within}
 use Rattle.network.specs.declared.CheckAnswer.{CheckAnswer}
 use Rattle.network.specs.declared.CheckAnswer.the-variants.{Within, Outside, Refused}
@@ -91,15 +93,19 @@ module _ (shape : Shape) (net lower upper work : List ℕ) where
   ordered : Bool
   ordered = limitsSound (placesOf shape) (shape .m) (limitsOf lower upper)
 
-  rows-found : (x : CheckResult) → checkRows shape net lower upper work ≡ accepted x → found ≡ x
+  -- what a call has passed that is accepted
+  rows-passed : (x : CheckResult) → checkRows shape net lower upper work ≡ accepted x → (networkTest shape net ≡ true) × (accepted found ≡ accepted x)
   unfolding room ordered
-  rows-found x e =
+  rows-passed x e =
       let network-row : Verdict CheckResult = unless (networkTest shape net) Network (accepted found) in
       let limits-row : Verdict CheckResult = unless ordered GradeLimits network-row in
       let a = row-passed (isSound shape) ShapeRange (unless room ShortBuffer limits-row) e in
       let b = row-passed room ShortBuffer limits-row (a .1) in
       let d = row-passed ordered GradeLimits network-row (b .1) in
-      accepted-same (row-passed (networkTest shape net) Network (accepted found) (d .1) .1)
+      row-passed (networkTest shape net) Network (accepted found) (d .1)
+
+  pub check-capped : (x : CheckResult) → checkRows shape net lower upper work ≡ accepted x → Capped (placesOf shape) net
+  check-capped x e = sound-capped (placesOf shape) (shape .m) net (passes (rows-passed x e .0))
 
   rows-accept : verdictNumber (checkRows shape net lower upper work) ≡ 0 → checkRows shape net lower upper work ≡ accepted found
   unfolding room ordered
@@ -138,6 +144,7 @@ module _ (shape : Shape) (net lower upper work : List ℕ) where
         kept = kept;
         within-means = λ w.
             let rows : checkRows shape net lower upper work ≡ accepted within = sym e ∙ ap checkVerdict w in
-            (ap verdictNumber rows, every (rows-found within rows));
+            (ap verdictNumber rows, every (accepted-same (rows-passed within rows .1)));
         within-when = λ z h. answer-within answer (e ∙ rows-accept z ∙ ap accepted (none-outside h));
+        capped = λ z. check-capped found (rows-accept z);
       }

@@ -17,7 +17,9 @@ use Rattle.rules.specs.Verdict.{Verdict, accepted, refused, unless, outcomeOf, 
 use Rattle.rules.specs.Network.{networkSound, evaluate}
 use Rattle.rules.specs.NetworkCalls.{evaluateCall}
 use Rattle.rules.specs.Visits.{noCell, visitByte, byteVerdict}
-use Rattle.laws.proofs.TestLaws.{and-true}
+use Rattle.rules.specs.Demands.{Capped}
+use Rattle.laws.proofs.TestLaws.{and-true, passes}
+use Rattle.laws.proofs.CeilingLaws.{sound-capped}
 use Rattle.laws.proofs.TableLaws.{at-map}
 use Rattle.laws.proofs.VerdictLaws.{refused-accepted, accepted-same, row-pass, row-passed, same-stop, outcome-means, was-written, was-refused}
 use Rattle.laws.proofs.ByteLaws.{past-same}
@@ -65,6 +67,9 @@ module _ (shape : Shape) (net visits grades work : List ℕ) where
     bytes-are : map (visitByte ks net) visits ≡ bytes
     bytes-are = accepted-same (row-passed (networkSound ks (shape .m) net) Network _ roomy .1)
 
+    pub each-capped : Capped ks net
+    each-capped = sound-capped ks (shape .m) net (passes network)
+
     module _ (i : ℕ) (h : i < length visits) where
       at-place : at (gradesAfter rows grades) i ≡ visitByte ks net (at visits i)
       at-place =
@@ -102,6 +107,7 @@ module _ (shape : Shape) (net visits grades work : List ℕ) where
         means = ap outcomeMeans e ∙ outcome-means rows;
         grades-after = after;
         grade-means = λ a i h l. subst (λ (g : List ℕ). GradeAt shape net (at visits i) (at g i)) (sym after) (each-grade (was-written rows (sym a ∙ e) .1) i h l);
+        capped = λ a. each-capped (was-written rows (sym a ∙ e) .1);
         as-single = λ a i h w w′ s room found.
             found .answers ∙ each-single (was-written rows (sym a ∙ e) .1) i h (length w) room ∙ ap (λ (g : List ℕ). byteVerdict (at g i)) (sym after);
         stops-as-single = λ q a room cell w′ s found. found .answers ∙ stops-single (was-refused rows (sym a ∙ e)) room cell;

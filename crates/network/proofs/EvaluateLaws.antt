@@ -12,7 +12,10 @@ use Rattle.rules.specs.Cell.{cells}
 use Rattle.rules.specs.Verdict.{Verdict, accepted, refused, answerOf}
 use Rattle.rules.specs.Network.{networkSound, evaluate}
 use Rattle.rules.specs.NetworkCalls.{evaluateCall}
+use Rattle.rules.specs.Demands.{Capped}
+use Rattle.laws.proofs.TestLaws.{passes}
 use Rattle.laws.proofs.VerdictLaws.{refused-accepted, accepted-same, row-passed}
+use Rattle.laws.proofs.CeilingLaws.{sound-capped}
 use Rattle.laws.proofs.ByteLaws.{past-same}
 use Rattle.shape.specs.declared.Shape.{Shape}
 use Rattle.shape.specs.Shapes.{cardsOf, placesOf, isSound}
@@ -36,21 +39,29 @@ module _ (shape : Shape) (net : List ℕ) (cell : ℕ) (work : List ℕ) where
   rows = evaluateCall (shape .n) (cardsOf shape) (shape .m) net (length work) cell
 
   -- what a call that answers a grade has passed
-  grade-at : {q : ℕ} → rows ≡ accepted q → GradeAt shape net cell q
+  grade-at : {q : ℕ} → rows ≡ accepted q → GradeAt shape net cell q × Capped (placesOf shape) net
   grade-at {q} e =
       let ks : List ℕ = placesOf shape in
       let sound = row-passed (isSound shape) ShapeRange _ e in
       let room = row-passed (leb (length net / 16) (length work)) ShortBuffer _ (sound .1) in
       let network = row-passed (networkSound ks (shape .m) net) Network _ (room .1) in
       let there = row-passed (ltb cell (cells ks)) CellNumber _ (network .1) in
-      network-grade (sound .0) (network .0) (sym (accepted-same (there .1)))
+      (network-grade (sound .0) (network .0) (sym (accepted-same (there .1))), sound-capped ks (shape .m) net (passes (network .0)))
 
   module _ {answer : Evaluation} (e : evaluationVerdict answer ≡ rows) where
-    grade-means : (q : ℕ) → answer ≡ Grade q → GradeAt shape net cell q
+    grade-means : (q : ℕ) → answer ≡ Grade q → GradeAt shape net cell q × Capped (placesOf shape) net
     grade-means q a = grade-at (sym e ∙ ap evaluationVerdict a)
 
     pub evaluated : {after : List ℕ} → ((r : Refusal) → answer ≡ Refused r → after ≡ work) → Past (length net / 16) work after → Evaluated shape net cell work after answer
-    evaluated keeps kept = record { answers = e; means = means answer ∙ ap (answerOf (λ (q : ℕ). q ∷ [])) e; grade-means = grade-means; refusal-keeps = keeps; kept = kept }
+    evaluated keeps kept =
+        record {
+          answers = e;
+          means = means answer ∙ ap (answerOf (λ (q : ℕ). q ∷ [])) e;
+          grade-means = λ q a. grade-means q a .0;
+          capped = λ q a. grade-means q a .1;
+          refusal-keeps = keeps;
+          kept = kept;
+        }
 
   -- a refusal
   pub evaluate-stops : {r : Refusal} → refused r ≡ rows → Evaluated shape net cell work work (Refused r)

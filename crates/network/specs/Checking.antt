@@ -9,7 +9,7 @@ use Rattle.rules.specs.Cell.{cells}
 use Rattle.rules.specs.Limits.{limitsOf}
 use Rattle.rules.specs.Verdict.{Verdict, accepted, refused, verdictNumber, Answer, granted, denied, answerOf}
 use Rattle.rules.specs.Network.{evaluate}
-use Rattle.rules.specs.Demands.{Inside}
+use Rattle.rules.specs.Demands.{Inside, Capped}
 use Rattle.rules.specs.NetworkCalls.{CheckResult, within, outside, checkFrom, checkCall}
 use Rattle.shape.specs.declared.Shape.{Shape}
 use Rattle.shape.specs.Shapes.{cardsOf, placesOf}
@@ -48,6 +48,8 @@ pub record Checked (shape : Shape) (net lower upper work after : List ℕ) (answ
   pub means : checkMeans answer ≡ answerOf resultValues (checkRows shape net lower upper work)
   pub within-means : answer ≡ Within → (verdictNumber (checkRows shape net lower upper work) ≡ 0) × EveryWithin shape net lower upper
   pub within-when : verdictNumber (checkRows shape net lower upper work) ≡ 0 → EveryWithin shape net lower upper → answer ≡ Within
+  -- the ceilings of a network that was let pass bound the grades of its records
+  pub capped : verdictNumber (checkRows shape net lower upper work) ≡ 0 → Capped (placesOf shape) net
   pub refusal-keeps : (r : Refusal) → answer ≡ Refused r → after ≡ work
   pub kept : Past (length net / 16) work after
 

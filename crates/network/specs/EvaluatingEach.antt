@@ -10,6 +10,7 @@ use Rattle.rules.specs.Bytes.{at, Past}
 use Rattle.rules.specs.Cell.{cells}
 use Rattle.rules.specs.Verdict.{Verdict, accepted, refused, answerOf, outcomeOf, outcomeMeans}
 use Rattle.rules.specs.Visits.{byteVerdict, evaluateEachCall}
+use Rattle.rules.specs.Demands.{Capped}
 use Rattle.shape.specs.declared.Shape.{Shape}
 use Rattle.shape.specs.Shapes.{cardsOf, placesOf}
 use Rattle.network.specs.declared.Evaluation.{Evaluation}
@@ -36,6 +37,8 @@ module _ (shape : Shape) (net visits grades work : List ℕ) where
     pub grades-after : grades′ ≡ gradesAfter verdict grades
     -- in plain words, the byte for a cell is the network's grade there
     pub grade-means : r ≡ Written → (i : ℕ) → i < length visits → at visits i < cells (placesOf shape) → GradeAt shape net (at visits i) (at grades′ i)
+    -- the ceilings of a network that was let pass bound the grades of its records
+    pub capped : r ≡ Written → Capped (placesOf shape) net
     -- and each byte says what `evaluate` answers for its number, whatever work buffer that is lent
     pub as-single : r ≡ Written → (i : ℕ) → i < length visits → (w w′ : List ℕ) (single : Evaluation) → length net / 16 ≤ length w
         → Evaluated shape net (at visits i) w w′ single → evaluationVerdict single ≡ byteVerdict (at grades′ i)

@@ -21,9 +21,27 @@ fn none() -> Records {
     }
 }
 
+fn lesser(a: u8, b: u8) -> u8 {
+    if a < b { a } else { b }
+}
+
+fn greater(a: u8, b: u8) -> u8 {
+    if a < b { b } else { a }
+}
+
 impl Records {
-    // With one record more: its kind, byte 1, the records of a gate, the first grades of a literal.
-    fn with(self, kind: u8, one: u8, left: u8, right: u8, grade0: u8, grade1: u8) -> Records {
+    // With one record more: its kind, byte 1, its ceiling, the records of a gate, the first grades of a
+    // literal.
+    fn with(
+        self,
+        kind: u8,
+        one: u8,
+        top: u8,
+        left: u8,
+        right: u8,
+        grade0: u8,
+        grade1: u8,
+    ) -> Records {
         let at = self.len;
         if 240 < at {
             return self;
@@ -31,6 +49,7 @@ impl Records {
         let mut bytes = self.bytes;
         bytes[at] = kind;
         bytes[at + 1] = one;
+        bytes[at + 2] = top;
         bytes[at + 4] = left;
         bytes[at + 6] = right;
         bytes[at + 8] = grade0;
@@ -42,19 +61,31 @@ impl Records {
     }
 
     fn constant(self, grade: u8) -> Records {
-        self.with(0, grade, 0, 0, 0, 0)
+        self.with(0, grade, grade, 0, 0, 0, 0)
     }
 
     fn literal(self, condition: u8, grade0: u8, grade1: u8) -> Records {
-        self.with(1, condition, 0, 0, grade0, grade1)
+        self.with(1, condition, greater(grade0, grade1), 0, 0, grade0, grade1)
+    }
+
+    // Byte 2 of a record.
+    fn ceiling(self, k: u8) -> u8 {
+        let at = 16 * (k as usize) + 2;
+        if 256 <= at {
+            return 0;
+        }
+        let bytes = self.bytes;
+        bytes[at]
     }
 
     fn min(self, left: u8, right: u8) -> Records {
-        self.with(2, 0, left, right, 0, 0)
+        let top = lesser(self.ceiling(left), self.ceiling(right));
+        self.with(2, 0, top, left, right, 0, 0)
     }
 
     fn max(self, left: u8, right: u8) -> Records {
-        self.with(3, 0, left, right, 0, 0)
+        let top = greater(self.ceiling(left), self.ceiling(right));
+        self.with(3, 0, top, left, right, 0, 0)
     }
 
     // With another byte at a place.
@@ -286,7 +317,7 @@ fn table_e() -> Limits {
 
 // The network of 01's table F: the grades 1 0 2 of condition 1.
 fn literal_f() -> Records {
-    none().literal(1, 1, 0).changed(10, 2)
+    none().literal(1, 1, 0).changed(10, 2).changed(2, 2)
 }
 
 fn table_f() -> Limits {
@@ -397,8 +428,12 @@ fn constants() {
     try_fault(b"an unknown kind", parity().changed(0, 4));
     try_fault(b"constant of the grade m", none().constant(2));
     try_fault(
-        b"constant with byte 2 set",
-        none().constant(1).changed(2, 1),
+        b"constant with byte 3 set",
+        none().constant(1).changed(3, 1),
+    );
+    try_fault(
+        b"constant of before, with byte 2 clear",
+        none().constant(1).changed(2, 0),
     );
     try_fault(
         b"constant with byte 15 set",
@@ -412,12 +447,16 @@ fn literals() {
         parity().changed(1, 2),
     );
     try_fault(b"literal of condition 8", parity().changed(1, 8));
-    try_fault(b"literal with the grade m", parity().changed(9, 2));
+    try_fault(
+        b"literal with the grade m",
+        parity().changed(9, 2).changed(2, 2),
+    );
     try_fault(
         b"literal with a grade past the cardinality",
         parity().changed(10, 1),
     );
     try_fault(b"literal with byte 4 set", parity().changed(4, 1));
+    try_fault(b"literal with another byte 2", parity().changed(2, 0));
 }
 
 fn gates() {
@@ -428,6 +467,12 @@ fn gates() {
     try_fault(b"gate of record 256", parity().changed(37, 1));
     try_fault(b"min with byte 1 set", parity().changed(33, 1));
     try_fault(b"max with byte 15 set", parity().changed(111, 1));
+    try_fault(b"min with another byte 2", parity().changed(34, 0));
+    try_fault(b"max with another byte 2", parity().changed(98, 0));
+    try_fault(
+        b"min with the ceiling of max",
+        none().constant(0).constant(1).min(0, 1).changed(34, 1),
+    );
 }
 
 fn cells() {

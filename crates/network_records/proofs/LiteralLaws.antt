@@ -1,5 +1,5 @@
 -- A literal's bytes from eight grades.
-use Prim.Native.Nat.{ℕ, _+_, _≤_, _<_}
+use Prim.Native.Nat.{ℕ, suc, _+_, _≤_, _<_}
 use mathlib.Core.Path.{_≡_, refl, sym, _∙_, ap, ap₂, subst}
 use mathlib.Core.Bool.{Bool, true, false}
 use mathlib.Core.List.{List, [], _∷_, _++_}
@@ -10,11 +10,12 @@ use borrow.Author.Tests.{lt-ltb, le-ltb, eq-eqb, ne-eqb}
 use lib.Dec.{T, ltb, eqb, eqb→eq, eqb-refl}
 use lib.ListN.{length, set, take, replicate, length-take, length-append, getD-replicate}
 use lib.Seq.{ext-getD, take-at, getD-take, getD-set-same, getD-set-other}
-use Rattle.rules.specs.Bytes.{at, pick, tabulate}
+use Rattle.rules.specs.Bytes.{at, pick, tabulate, greatest}
 use Rattle.rules.specs.Network.{literal, recordBytes}
 use Rattle.laws.proofs.TestLaws.{by-order, by-test}
-use Rattle.laws.proofs.TableLaws.{at-tabulate, tabulate-self, length-tabulateFrom}
+use Rattle.laws.proofs.TableLaws.{at-tabulate, tabulate-self, tabulate-from-below, length-tabulateFrom}
 use Rattle.laws.proofs.ByteLaws.{grade-here, grade-past}
+use Rattle.laws.proofs.CeilingLaws.{at-greatest, greatest-bound}
 use Rattle.network_records.specs.Grades.{Padded}
 
 length-eight : (gs : List ℕ) → length (take 8 (gs ++ replicate 8 0)) ≡ 8
@@ -57,17 +58,36 @@ padded-one n k x h l v q =
     same true = refl
     same false = refl
 
-pub literal-padded : (i n : ℕ) (f : ℕ → ℕ) (gs : List ℕ) → n ≤ 8 → length gs ≡ 8 → Padded n f gs → recordBytes (literal i gs) ≡ recordBytes (literal i (tabulate n f))
-literal-padded i n f gs h e p =
-    ap (λ (t : List ℕ). 1 ∷ i ∷ 0 ∷ 0 ∷ 0 ∷ 0 ∷ 0 ∷ 0 ∷ t)
+-- eight grades, with the greatest of those that are not padding
+pub literal-padded : (i n : ℕ) (f : ℕ → ℕ) (gs : List ℕ) {top : ℕ} → n ≤ 8 → length gs ≡ 8 → Padded n f gs → top ≡ greatest (tabulate n f)
+    → recordBytes (literal i gs) top ≡ recordBytes (literal i (tabulate n f)) (greatest (tabulate n f))
+literal-padded i n f gs h e p t =
+    ap₂ (λ (b : ℕ) (v : List ℕ). 1 ∷ i ∷ b ∷ 0 ∷ 0 ∷ 0 ∷ 0 ∷ 0 ∷ v) t
     (ext-getD 0 (take 8 (gs ++ replicate 8 0)) (take 8 (tabulate n f ++ replicate 8 0)) (length-eight gs ∙ sym (length-eight (tabulate n f)))
     (λ v l.
     let q : v < 8 = omega (arith, length-eight gs) in
     getD-take 8 (gs ++ replicate 8 0) v 0 q ∙ grade-here gs v (omega arith) ∙ p v q ∙ sym (getD-take 8 (tabulate n f ++ replicate 8 0) v 0 q ∙ padded-at n f v h q)))
 
 -- eight grades one by one
-pub literal-bytes : (i : ℕ) (gs : List ℕ) → length gs ≡ 8
-    → 1 ∷ i ∷ 0 ∷ 0 ∷ 0 ∷ 0 ∷ 0 ∷ 0 ∷ at gs 0 ∷ at gs 1 ∷ at gs 2 ∷ at gs 3 ∷ at gs 4 ∷ at gs 5 ∷ at gs 6 ∷ at gs 7 ∷ [] ≡ recordBytes (literal i gs)
-literal-bytes i gs e =
-    ap (λ (t : List ℕ). 1 ∷ i ∷ 0 ∷ 0 ∷ 0 ∷ 0 ∷ 0 ∷ 0 ∷ t)
+pub literal-bytes : (i top : ℕ) (gs : List ℕ) → length gs ≡ 8
+    → 1 ∷ i ∷ top ∷ 0 ∷ 0 ∷ 0 ∷ 0 ∷ 0 ∷ at gs 0 ∷ at gs 1 ∷ at gs 2 ∷ at gs 3 ∷ at gs 4 ∷ at gs 5 ∷ at gs 6 ∷ at gs 7 ∷ [] ≡ recordBytes (literal i gs) top
+literal-bytes i top gs e =
+    ap (λ (t : List ℕ). 1 ∷ i ∷ top ∷ 0 ∷ 0 ∷ 0 ∷ 0 ∷ 0 ∷ t)
     (subst (λ (n : ℕ). tabulate n (at gs) ≡ gs) e (tabulate-self (at gs) gs (λ v h. refl)) ∙ sym (take-at gs (replicate 8 0) 8 e))
+
+-- the greatest of a table's first grades, and of one grade alone
+pub greatest-front : (table : List ℕ) (n : ℕ) → n ≤ length table → greatest (take n table) ≡ greatest (tabulate n (at table))
+greatest-front table n h =
+    let long : length (take n table) ≡ n = length-take n table ∙ omega arith in
+    ap greatest
+    (sym (subst (λ (k : ℕ). tabulate k (at table) ≡ take n table) long (tabulate-self (at table) (take n table) (λ v l. sym (getD-take n table v 0 (omega arith))))))
+
+pub greatest-one : (n k x : ℕ) → k < n → greatest (tabulate n (λ v. pick (eqb v k) x 0)) ≡ x
+greatest-one n k x h =
+    let f : ℕ → ℕ = λ v. pick (eqb v k) x 0 in
+    let there : at (tabulate n f) k ≡ x = at-tabulate n f k h ∙ ap (λ (b : Bool). pick b x 0) (eq-eqb k k refl) in
+    omega (arith, at-greatest (tabulate n f) k, greatest-bound (tabulate n f) x (λ v. let low = tabulate-from-below (suc x) f 0 n (omega arith) (λ w a b. few (eqb w k)) v in omega arith))
+  where
+    few : (b : Bool) → pick b x 0 < suc x
+    few true = omega arith
+    few false = omega arith

@@ -1,3 +1,3 @@
--- What the contracts of `records` cite.
+-- What the contracts of `network_records` cite.
 pub mod Grades
 pub mod Putting

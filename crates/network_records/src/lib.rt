@@ -1,27 +1,34 @@
-// The records of a network, each written whole: record r at byte 16 × r, where the buffer has room for it.
+// The records of a network, each written whole: record r at byte 16 × r, where the buffer has room for it,
+// with its ceiling in byte 2.
 use rules::Gate;
 use rules::PLACES;
 use rules::RECORD;
 use rules::kinds;
-ghost use Prim.Native.Nat.{_-_, _≤_, _<_};
+ghost use Prim.Native.Nat.{_+_, _*_, _≤_, _<_};
 ghost use mathlib.Core.Path.{_≡_};
 ghost use mathlib.Core.List.{[], _∷_};
-ghost use lib.Dec.{eqb};
+ghost use lib.Dec.{eqb, leb};
 ghost use lib.ListN.{length};
 ghost use Rattle.rules.specs.Bytes.{at, pick, tabulate};
 ghost use Rattle.rules.specs.Network.{constant, literal, gate, recordBytes, kindOf};
+ghost use Rattle.tables.specs.Part.{Laid};
 ghost use Rattle.network_records.specs.Grades.{Padded};
-ghost use Rattle.network_records.specs.Putting.{Put, PutBytes};
+ghost use Rattle.network_records.specs.Putting.{Put};
+
+// Whether the buffer has room for record r.
+fn has_room(net: &[u8], r: usize) -> bool
+    requires { ⌜ r < 65536 ⌝ }
+    ensures { λ q. ⌜ q ≡ leb (16 * r + 16) (length (now (net .entry))) ⌝ }
+{
+    RECORD * r + RECORD <= net.len()
+}
 
 // Sixteen bytes as record r.
 fn put(net: &mut [u8], r: usize, bytes: [u8; RECORD])
-    requires { ⌜ r < 65536 ⌝ }
-    ensures { λ _. ⌜ PutBytes (now (net .entry)) r bytes (now (net .exit)) ⌝ }
+    requires { ⌜ (r < 65536) × (16 * r + 16 ≤ length (now net)) ⌝ }
+    ensures { λ _. ⌜ Laid (now (net .entry)) (16 * r) bytes 16 (now (net .exit)) ⌝ }
 {
     let a = RECORD * r;
-    if net.len() < a + RECORD {
-        return;
-    }
     for j in 0..RECORD {
         net[a + j] = bytes[j];
     }
@@ -31,28 +38,14 @@ pub fn put_constant(net: &mut [u8], r: usize, grade: u8)
     requires { ⌜ r < 65536 ⌝ }
     ensures { λ _. ⌜ Put (now (net .entry)) r (constant grade ∷ []) (now (net .exit)) ⌝ }
 {
-    put(
-        net,
-        r,
-        [
-            kinds::CONSTANT,
-            grade,
-            0,
-            0,
-            0,
-            0,
-            0,
-            0,
-            0,
-            0,
-            0,
-            0,
-            0,
-            0,
-            0,
-            0,
-        ],
-    );
+    if !has_room(net, r) {
+        return;
+    }
+    let mut bytes = [0u8; RECORD];
+    bytes[0] = kinds::CONSTANT;
+    bytes[1] = grade;
+    bytes[2] = grade;
+    put(net, r, bytes);
 }
 
 fn kind(by: Gate) -> u8
@@ -64,41 +57,28 @@ fn kind(by: Gate) -> u8
     }
 }
 
+// The ceiling comes from byte 2 of the gate's records, which stand in the buffer wherever it has room for
+// the gate.
 pub fn put_gate(net: &mut [u8], r: usize, by: Gate, left: usize, right: usize)
-    requires { ⌜ (r < 65536) × (left < 65536) × (right < 65536) ⌝ }
+    requires { ⌜ (r < 65536) × (left < r) × (right < r) ⌝ }
     ensures { λ _. ⌜ Put (now (net .entry)) r (gate by left right ∷ []) (now (net .exit)) ⌝ }
 {
-    let low_left = (left % 256) as u8;
-    let high_left = (left / 256) as u8;
-    let low_right = (right % 256) as u8;
-    let high_right = (right / 256) as u8;
-    put(
-        net,
-        r,
-        [
-            kind(by),
-            0,
-            0,
-            0,
-            low_left,
-            high_left,
-            low_right,
-            high_right,
-            0,
-            0,
-            0,
-            0,
-            0,
-            0,
-            0,
-            0,
-        ],
-    );
+    if !has_room(net, r) {
+        return;
+    }
+    let mut bytes = [0u8; RECORD];
+    bytes[0] = kind(by);
+    bytes[2] = tables::grades::combined(by, net[RECORD * left + 2], net[RECORD * right + 2]);
+    bytes[4] = (left % 256) as u8;
+    bytes[5] = (left / 256) as u8;
+    bytes[6] = (right % 256) as u8;
+    bytes[7] = (right / 256) as u8;
+    put(net, r, bytes);
 }
 
-fn put_grades(net: &mut [u8], r: usize, condition: u8, grades: [u8; PLACES])
-    requires { ⌜ r < 65536 ⌝ }
-    ensures { λ _. ⌜ PutBytes (now (net .entry)) r (recordBytes (literal condition grades)) (now (net .exit)) ⌝ }
+fn put_grades(net: &mut [u8], r: usize, condition: u8, top: u8, grades: [u8; PLACES])
+    requires { ⌜ (r < 65536) × (16 * r + 16 ≤ length (now net)) ⌝ }
+    ensures { λ _. ⌜ Laid (now (net .entry)) (16 * r) (recordBytes (literal condition grades) top) 16 (now (net .exit)) ⌝ }
 {
     put(
         net,
@@ -106,7 +86,7 @@ fn put_grades(net: &mut [u8], r: usize, condition: u8, grades: [u8; PLACES])
         [
             kinds::LITERAL,
             condition,
-            0,
+            top,
             0,
             0,
             0,
@@ -141,7 +121,11 @@ pub fn put_literal(net: &mut [u8], r: usize, condition: u8, table: &[u8], card: 
     requires { ⌜ (r < 65536) × (card ≤ 8) × (card ≤ length (now table)) ⌝ }
     ensures { λ _. ⌜ Put (now (net .entry)) r (literal condition (tabulate card (at (now (table .entry)))) ∷ []) (now (net .exit)) ⌝ }
 {
-    put_grades(net, r, condition, grades_of(table, card));
+    if !has_room(net, r) {
+        return;
+    }
+    let top = tables::grades::greatest(&table[..card]);
+    put_grades(net, r, condition, top, grades_of(table, card));
 }
 
 // A literal that is the top grade at value k of `card` values, and 0 elsewhere.
@@ -149,7 +133,10 @@ pub fn put_selector(net: &mut [u8], r: usize, condition: u8, card: usize, k: usi
     requires { ⌜ (r < 65536) × (card ≤ 8) × (k < card) ⌝ }
     ensures { λ _. ⌜ Put (now (net .entry)) r (literal condition (tabulate card (λ v. pick (eqb v k) top 0)) ∷ []) (now (net .exit)) ⌝ }
 {
+    if !has_room(net, r) {
+        return;
+    }
     let mut grades = [0u8; PLACES];
     grades[k] = top;
-    put_grades(net, r, condition, grades);
+    put_grades(net, r, condition, top, grades);
 }

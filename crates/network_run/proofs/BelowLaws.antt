@@ -10,14 +10,15 @@ use lib.ListN.{length}
 use Rattle.rules.specs.declared.Gate.the-variants.{Min, Max}
 use Rattle.rules.specs.Bytes.{at, word, recordAt}
 use Rattle.rules.specs.Cell.{card, present, value}
-use Rattle.rules.specs.Network.{Record, gate, recordOf, recordsFrom, networkRecords, recordGrade, run, literalByteSound, recordSound, networkSound, evaluate}
-use Rattle.laws.proofs.TestLaws.{and-r, cond-ok, passed, failed}
+use Rattle.rules.specs.Network.{Record, gate, recordOf, recordsFrom, networkRecords, recordGrade, run, literalByteSound, recordFormed, networkSound, evaluate}
+use Rattle.laws.proofs.TestLaws.{and-r, cond-ok, passed, passes, failed}
+use Rattle.laws.proofs.CeilingLaws.{each-formed}
 use Rattle.laws.proofs.TableLaws.{all-at, tabulate-from-below}
 use Rattle.shape.specs.declared.Shape.{Shape}
 use Rattle.shape.specs.Shapes.{placesOf, isSound}
 use Rattle.shape.proofs.ShapeLaws.{sound-shape}
-use Rattle.network_scan.proofs.SoundLaws.{gradesSound}
-use Rattle.network_run.proofs.ReadLaws.{last-test, each-sound}
+use Rattle.network_scan.specs.Kinds.{gradesSound}
+use Rattle.network_run.proofs.ReadLaws.{last-test}
 
 -- a literal's byte for a value that there is
 byte-below : (k m w q : ℕ) (b : Bool) → ltb w k ≡ b → w < k → T (cond b (ltb q m) (eqb q 0)) → q < m
@@ -35,7 +36,7 @@ module _ (m : ℕ) (some : 0 < m) where
   append-below (y ∷ l) x h g (suc j) = append-below l x (λ i. h (suc i)) g j
 
   module _ (ks : List ℕ) (few : (i : ℕ) → card ks i ≤ 8) (v : ℕ → ℕ) where
-    record-below : (k : ℕ) (done r : List ℕ) → T (recordSound ks m k r) → Below done → recordGrade v done (recordOf ks r) < m
+    record-below : (k : ℕ) (done r : List ℕ) → T (recordFormed ks m k r) → Below done → recordGrade v done (recordOf ks r) < m
     record-below k done r s h =
         cond-ok (λ (x : Record). recordGrade v done x < m) (eqb (at r 0) 0) _ _
         (λ z. ltb→lt (at r 1) m (last-test ks m k r s true (eqb (at r 0) 1) (passed (eqb (at r 0) 0) z) refl))
@@ -43,7 +44,7 @@ module _ (m : ℕ) (some : 0 < m) where
         cond-ok (λ (x : Record). recordGrade v done x < m) (eqb (at r 0) 1) _ _
         (λ o.
         let t = last-test ks m k r s false true (failed (eqb (at r 0) 0) z) (passed (eqb (at r 0) 1) o) in
-        let grades = and-r (present ks (at r 1)) (gradesSound ks m r (card ks (at r 1))) t in
+        let grades = and-r (present ks (at r 1)) (gradesSound (card ks (at r 1)) m r) t in
         tabulate-from-below m (λ w. at r (8 + w)) 0 (card ks (at r 1)) some
         (λ w a b.
         let low : w < card ks (at r 1) = omega arith in
@@ -55,7 +56,7 @@ module _ (m : ℕ) (some : 0 < m) where
         (λ t. omega (arith, h (word r 4), h (word r 6)))
         (λ t. omega (arith, h (word r 4), h (word r 6)))))
 
-    run-below : (net : List ℕ) (n k : ℕ) (done : List ℕ) → ((j : ℕ) → k ≤ j → j < k + n → T (recordSound ks m j (recordAt net j))) → Below done → Below (run v done (recordsFrom ks net k n))
+    run-below : (net : List ℕ) (n k : ℕ) (done : List ℕ) → ((j : ℕ) → k ≤ j → j < k + n → T (recordFormed ks m j (recordAt net j))) → Below done → Below (run v done (recordsFrom ks net k n))
     run-below net zero k done s h = h
     run-below net (suc n) k done s h =
         run-below net n (suc k) _ (λ j a b. s j (omega arith) (omega arith))
@@ -63,7 +64,7 @@ module _ (m : ℕ) (some : 0 < m) where
 
   pub evaluate-below : (ks net : List ℕ) (c : ℕ) → ((i : ℕ) → card ks i ≤ 8) → networkSound ks m net ≡ true → evaluate ks net c < m
   evaluate-below ks net c few s =
-      run-below ks few (value ks c) net (length net / 16) 0 [] (λ j a b. each-sound ks m net s j (omega arith)) (λ j. some) (length (run (value ks c) [] (networkRecords ks net)) - 1)
+      run-below ks few (value ks c) net (length net / 16) 0 [] (λ j a b. each-formed ks m net (passes s) j (omega arith)) (λ j. some) (length (run (value ks c) [] (networkRecords ks net)) - 1)
 
 -- of a sound network over a sound shape, which has at most sixteen grades
 module _ (shape : Shape) (net : List ℕ) (sound : isSound shape ≡ true) (network : networkSound (placesOf shape) (shape .m) net ≡ true) where

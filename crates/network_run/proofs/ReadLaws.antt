@@ -9,18 +9,19 @@ use lib.Dec.{T, eqb, ltb, leb, ltb→lt, eqb→eq}
 use lib.ListN.{length}
 use Rattle.rules.specs.Bytes.{at, all, word, recordAt}
 use Rattle.rules.specs.Cell.{card, present, value}
-use Rattle.rules.specs.Network.{recordSound, networkSound, maxRecords}
+use Rattle.rules.specs.Network.{recordFormed, recordSound, networkSound, maxRecords}
 use Rattle.laws.proofs.TestLaws.{and-l, and-r, passes}
-use Rattle.laws.proofs.TableLaws.{all-at}
+use Rattle.laws.proofs.CeilingLaws.{each-formed}
 use Rattle.laws.proofs.CellLaws.{present-lt, value-lt}
 use Rattle.shape.specs.declared.Shape.{Shape}
 use Rattle.shape.specs.Shapes.{placesOf}
 use Rattle.shape.proofs.ShapeLaws.{eight-places, shape-positive, sound-shape}
 use Rattle.network_run.specs.Grades.{Readable, Ready}
-use Rattle.network_scan.proofs.SoundLaws.{literalSound, gradesSound, gateSound, bytesSound, record-by}
+use Rattle.network_scan.specs.Kinds.{literalSound, gradesSound, gateSound}
+use Rattle.network_scan.proofs.SoundLaws.{bytesSound, record-by}
 use Rattle.laws.proofs.RecordLaws.{record-length}
 
-module _ (ks : List ℕ) (m k : ℕ) (r : List ℕ) (s : T (recordSound ks m k r)) where
+module _ (ks : List ℕ) (m k : ℕ) (r : List ℕ) (s : T (recordFormed ks m k r)) where
   -- the last test of a record of kind 1, and of a gate
   pub last-test : (z o : Bool) → eqb (at r 0) 0 ≡ z → eqb (at r 0) 1 ≡ o → T (cond z (ltb (at r 1) m) (cond o (literalSound ks m r) (gateSound k r)))
   last-test z o p q =
@@ -30,7 +31,7 @@ module _ (ks : List ℕ) (m k : ℕ) (r : List ℕ) (s : T (recordSound ks m k r
   condition-there : at r 0 ≡ 1 → at r 1 < length ks
   condition-there e =
       present-lt ks (at r 1)
-      (and-l (present ks (at r 1)) (gradesSound ks m r (card ks (at r 1))) (last-test false true (ne-eqb (at r 0) 0 (λ z. omega arith)) (eq-eqb (at r 0) 1 e)))
+      (and-l (present ks (at r 1)) (gradesSound (card ks (at r 1)) m r) (last-test false true (ne-eqb (at r 0) 0 (λ z. omega arith)) (eq-eqb (at r 0) 1 e)))
 
   gate-test : 2 ≤ at r 0 → T (gateSound k r)
   gate-test h = last-test false false (ne-eqb (at r 0) 0 (λ z. omega arith)) (ne-eqb (at r 0) 1 (λ z. omega arith))
@@ -39,29 +40,13 @@ module _ (ks : List ℕ) (m k : ℕ) (r : List ℕ) (s : T (recordSound ks m k r
   records-there h =
       (ltb→lt (word r 4) k (and-l (ltb (word r 4) k) (ltb (word r 6) k) (gate-test h)), ltb→lt (word r 6) k (and-r (ltb (word r 4) k) (ltb (word r 6) k) (gate-test h)))
 
-module _ (ks : List ℕ) (m : ℕ) (net : List ℕ) (s : networkSound ks m net ≡ true) where
-  each : ℕ → Bool
-  each k = recordSound ks m k (recordAt net k)
-
-  sizes : Bool
-  sizes = ltb 0 (length net) && (eqb (length net % 16) 0 && leb (length net / 16) maxRecords)
-
-  split : T (sizes && all (length net / 16) each)
-  unfolding each sizes
-  split = passes s
-
-  pub each-sound : (k : ℕ) → k < length net / 16 → T (recordSound ks m k (recordAt net k))
-  unfolding each
-  each-sound = all-at (length net / 16) each (and-r sizes (all (length net / 16) each) split)
-
-  pub some-record : 1 ≤ length net / 16
-  unfolding sizes
-  some-record =
-      let t : T sizes = and-l sizes (all (length net / 16) each) split in
-      let some : 0 < length net = ltb→lt 0 (length net) (and-l (ltb 0 (length net)) (eqb (length net % 16) 0 && leb (length net / 16) maxRecords) t) in
-      let whole : length net % 16 ≡ 0 =
-      eqb→eq (length net % 16) 0 (and-l (eqb (length net % 16) 0) (leb (length net / 16) maxRecords) (and-r (ltb 0 (length net)) _ t)) in
-      omega arith
+pub some-record : (ks : List ℕ) (m : ℕ) (net : List ℕ) → networkSound ks m net ≡ true → 1 ≤ length net / 16
+some-record ks m net s =
+    let n = length net in
+    let sizes : T (ltb 0 n && (eqb (n % 16) 0 && leb (n / 16) maxRecords)) = and-l (ltb 0 n && (eqb (n % 16) 0 && leb (n / 16) maxRecords)) (all (n / 16) (recordSound ks m net)) (passes s) in
+    let some : 0 < n = ltb→lt 0 n (and-l (ltb 0 n) (eqb (n % 16) 0 && leb (n / 16) maxRecords) sizes) in
+    let whole : n % 16 ≡ 0 = eqb→eq (n % 16) 0 (and-l (eqb (n % 16) 0) (leb (n / 16) maxRecords) (and-r (ltb 0 n) (eqb (n % 16) 0 && leb (n / 16) maxRecords) sizes)) in
+    omega arith
 
 module _ (shape : Shape) (net work : List ℕ) (y : Ready shape net work) where
   pub value-low : (cell i : ℕ) → value (placesOf shape) cell i < card (placesOf shape) i
@@ -72,7 +57,7 @@ module _ (shape : Shape) (net work : List ℕ) (y : Ready shape net work) where
 
   pub readable : (cell k : ℕ) (values done : List ℕ) → k < length net / 16 → ((i : ℕ) → at values i ≡ value (placesOf shape) cell i) → length done ≡ k → Readable values done (recordAt net k)
   readable cell k values done l same e =
-      let sound = each-sound (placesOf shape) (shape .m) net (y .network-sound) k l in
+      let sound = each-formed (placesOf shape) (shape .m) net (passes (y .network-sound)) k l in
       record {
         long = record-length net k (omega arith);
         small = λ i. omega (arith, same i, value-low cell i, card-low i);

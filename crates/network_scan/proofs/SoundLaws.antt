@@ -1,44 +1,54 @@
 -- Sound records and networks, test by test.
-use Prim.Native.Nat.{ℕ, _+_, _/_, _%_, _≤_, _<_}
-use mathlib.Core.Path.{_≡_, sym, _∙_, ap}
+use Prim.Native.Nat.{ℕ, _+_, _/_, _%_, _≤_, _<_, max}
+use mathlib.Core.Path.{_≡_, sym, _∙_, ap, ap₂}
 use mathlib.Core.Bool.{Bool, true, false, cond, _&&_, _||_}
 use mathlib.Core.List.{List}
 use native.Mathlib.Omega.{arith}
 use borrow.Author.Tests.{ltb-true, lt-ltb, le-ltb}
 use lib.Dec.{eqb, ltb, leb}
-use lib.ListN.{length}
-use Rattle.rules.specs.Bytes.{at, all, word, recordAt}
-use Rattle.rules.specs.Cell.{card, present}
-use Rattle.rules.specs.Network.{named, literalByteSound, recordSound, networkSound, maxRecords}
+use lib.ListN.{length, take, drop}
+use Rattle.rules.specs.Bytes.{at, all, zeros, word, greatest}
+use Rattle.rules.specs.Cell.{card}
+use Rattle.rules.specs.Network.{Record, recordOf, recordCeiling, named, recordFormed, ceilingAt, recordSound, networkSound, maxRecords}
 use Rattle.laws.proofs.LoopLaws.{card-read}
 use Rattle.laws.proofs.NumberLaws.{card-past}
-use Rattle.laws.proofs.TestLaws.{and-left, and-pass}
+use Rattle.laws.proofs.TestLaws.{and-left, and-pass, and-both, by-order}
+use Rattle.network_scan.specs.Kinds.{gradesSound, literalGrades, literalSound, gateSound, ceilingIs}
+use Rattle.network_scan.proofs.LiteralLaws.{literal-tests}
 use Rattle.network_scan.proofs.ZeroLaws.{rowSound, row-named}
 
--- a literal's tests, and a gate's
+-- a literal's tests
 module _ (ks : List ℕ) (m : ℕ) (r : List ℕ) where
-  abbrev pub gradesSound : ℕ → Bool
-  gradesSound k = all 8 (λ v. literalByteSound k m v (at r (8 + v)))
+  abbrev literalWhole : Bool
+  literalWhole = literalSound ks m r && ceilingIs (greatest (literalGrades ks r)) r
 
-  abbrev pub literalSound : Bool
-  literalSound = present ks (at r 1) && gradesSound (card ks (at r 1))
+  absent : card ks (at r 1) ≤ 1 → literalWhole ≡ false
+  absent h = and-left (ceilingIs (greatest (literalGrades ks r)) r) (and-left (gradesSound (card ks (at r 1)) m r) (le-ltb 1 (card ks (at r 1)) h))
 
-  pub literal-past : length ks ≤ at r 1 → literalSound ≡ false
-  literal-past h = and-left (gradesSound (card ks (at r 1))) (ap (ltb 1) (card-past ks (at r 1) h))
+  pub literal-past : length ks ≤ at r 1 → literalWhole ≡ false
+  literal-past h = absent (omega (arith, card-past ks (at r 1) h))
 
-  pub literal-none : at r 1 < length ks → at ks (at r 1) < 2 → literalSound ≡ false
-  literal-none l h =
-      and-left (gradesSound (card ks (at r 1)))
-      (ap (ltb 1) (sym (card-read ks (at r 1) l)) ∙ le-ltb 1 (at ks (at r 1)) (omega arith))
+  pub literal-none : at r 1 < length ks → at ks (at r 1) < 2 → literalWhole ≡ false
+  literal-none l h = absent (omega (arith, card-read ks (at r 1) l))
 
-  pub literal-there : at r 1 < length ks → 2 ≤ at ks (at r 1) → literalSound ≡ gradesSound (at ks (at r 1))
-  literal-there l h =
-      and-pass (gradesSound (card ks (at r 1)))
-      (ap (ltb 1) (sym (card-read ks (at r 1) l)) ∙ lt-ltb 1 (at ks (at r 1)) (omega arith))
-      ∙ ap gradesSound (sym (card-read ks (at r 1) l))
+  -- in their order, where the condition is there
+  pub literal-by : length r ≡ 16 → at r 1 < length ks → 2 ≤ at ks (at r 1) → (a b c : Bool)
+      → ltb (at r 2) m ≡ a → zeros r (8 + at ks (at r 1)) 16 ≡ b → eqb (at r 2) (greatest (take 8 (drop 8 r))) ≡ c → literalWhole ≡ (a && (b && c))
+  literal-by long l h a b c p q s =
+      let read : at ks (at r 1) ≡ card ks (at r 1) = card-read ks (at r 1) l in
+      ap (λ (x : Bool). x && ceilingIs (greatest (literalGrades ks r)) r) (and-pass (gradesSound (card ks (at r 1)) m r) (lt-ltb 1 (card ks (at r 1)) (omega arith)))
+      ∙ literal-tests (card ks (at r 1)) m r long (omega arith)
+      ∙ ap₂ (λ (x y : Bool). x && y) p (ap₂ (λ (x y : Bool). x && y) (ap (λ (n : ℕ). zeros r (8 + n) 16) (sym read) ∙ q) s)
 
-abbrev pub gateSound : ℕ → List ℕ → Bool
-gateSound k r = ltb (word r 4) k && ltb (word r 6) k
+-- a gate's
+module _ (k : ℕ) (r : List ℕ) where
+  pub gate-late : k ≤ max (word r 4) (word r 6) → gateSound k r ≡ false
+  gate-late h =
+      by-order k (word r 4) (λ le. and-left (ltb (word r 6) k) (le-ltb (word r 4) k le))
+      (λ lt. and-pass (ltb (word r 6) k) (lt-ltb (word r 4) k lt) ∙ le-ltb (word r 6) k (omega arith))
+
+  pub gate-before : max (word r 4) (word r 6) < k → gateSound k r ≡ true
+  gate-before h = and-both (lt-ltb (word r 4) k (omega arith)) (lt-ltb (word r 6) k (omega arith))
 
 -- a record's tests, in their order
 choose : (a b z o constant literal gate : Bool) → Bool
@@ -56,24 +66,27 @@ module _ (ks : List ℕ) (m k : ℕ) (r : List ℕ) where
   kindSound z o = cond z (ltb (at r 1) m) (cond o (literalSound ks m r) (gateSound k r))
 
   pub record-by : (a b z o : Bool) → ltb (at r 0) 4 ≡ a → bytesSound ≡ b → eqb (at r 0) 0 ≡ z → eqb (at r 0) 1 ≡ o
-      → recordSound ks m k r ≡ (a && (b && kindSound z o))
+      → recordFormed ks m k r ≡ (a && (b && kindSound z o))
   unfolding choose
   record-by a b z o p q s t =
       choose-same (ltb (at r 0) 4) bytesSound (eqb (at r 0) 0) (eqb (at r 0) 1) a b z o (ltb (at r 1) m) (literalSound ks m r) (gateSound k r) p q s t
 
-  -- a record of a known kind, by what its row gives
-  module _ (kind : ℕ) (q : Bool) (h : ltb kind 4 ≡ true) (e : at r 0 ≡ kind) (row : q ≡ rowSound kind r) where
-    record-row : (b : Bool) → q ≡ b → recordSound ks m k r ≡ (b && kindSound (eqb kind 0) (eqb kind 1))
+  -- a record of a known kind, by what its row gives, and its ceiling beside
+  module _ (net : List ℕ) (kind : ℕ) (x : Record) (q : Bool) (h : ltb kind 4 ≡ true) (e : at r 0 ≡ kind) (is : recordOf ks r ≡ x) (row : q ≡ rowSound kind r) where
+    abbrev ceilingRight : Record → Bool
+    ceilingRight y = ceilingIs (recordCeiling (ceilingAt net) y) r
+
+    record-row : (b : Bool) → q ≡ b → recordFormed ks m k r ≡ (b && kindSound (eqb kind 0) (eqb kind 1))
     record-row b w =
         record-by true b (eqb kind 0) (eqb kind 1) (ap (λ (n : ℕ). ltb n 4) e ∙ h)
         (ap (λ (n : ℕ). all 16 (λ j. named n j || eqb (at r j) 0)) e ∙ sym (row-named kind r (ltb-true kind 4 h)) ∙ sym row ∙ w)
         (ap (λ (n : ℕ). eqb n 0) e) (ap (λ (n : ℕ). eqb n 1) e)
 
-    pub row-passed : q ≡ true → kindSound (eqb kind 0) (eqb kind 1) ≡ recordSound ks m k r
-    row-passed w = sym (record-row true w)
+    pub row-passed : q ≡ true → {t : Bool} → t ≡ (kindSound (eqb kind 0) (eqb kind 1) && ceilingRight x) → t ≡ (recordFormed ks m k r && ceilingRight (recordOf ks r))
+    row-passed w e = e ∙ ap₂ (λ (a : Bool) (y : Record). a && ceilingRight y) (sym (record-row true w)) (sym is)
 
-    pub row-failed : q ≡ false → q ≡ recordSound ks m k r
-    row-failed w = w ∙ sym (record-row false w)
+    pub row-failed : q ≡ false → q ≡ (recordFormed ks m k r && ceilingRight (recordOf ks r))
+    row-failed w = w ∙ sym (and-left (ceilingRight (recordOf ks r)) (record-row false w))
 
 -- a network's tests, in their order
 lengths : (a b d e : Bool) → Bool
@@ -84,8 +97,8 @@ lengths-same a b d a′ b′ d′ e p q s = cc
 
 module _ (ks : List ℕ) (m : ℕ) (net : List ℕ) where
   pub network-by : (a b d : Bool) → ltb 0 (length net) ≡ a → eqb (length net % 16) 0 ≡ b → leb (length net / 16) maxRecords ≡ d
-      → networkSound ks m net ≡ ((a && (b && d)) && all (length net / 16) (λ k. recordSound ks m k (recordAt net k)))
+      → networkSound ks m net ≡ ((a && (b && d)) && all (length net / 16) (recordSound ks m net))
   unfolding lengths
   network-by a b d p q s =
       lengths-same (ltb 0 (length net)) (eqb (length net % 16) 0) (leb (length net / 16) maxRecords) a b d
-      (all (length net / 16) (λ k. recordSound ks m k (recordAt net k))) p q s
+      (all (length net / 16) (recordSound ks m net)) p q s

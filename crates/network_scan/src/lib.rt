@@ -1,24 +1,27 @@
 // Which networks are sound.
+use rules::Gate;
 use rules::PLACES;
 use rules::RECORD;
 use rules::kinds;
+use tables::grades;
+use tables::tests;
 ghost use mathlib.Core.Path.{_≡_};
 ghost use mathlib.Core.Bool.{_&&_, _||_};
-ghost use Prim.Native.Nat.{_+_, _*_, _<_, _≤_};
+ghost use Prim.Native.Nat.{_+_, _*_, _<_, _≤_, max};
 ghost use lib.Dec.{eqb, ltb};
 ghost use lib.ListN.{length};
-ghost use Rattle.rules.specs.Bytes.{pick, at, all, word, recordAt};
-ghost use Rattle.rules.specs.Cell.{card, present};
-ghost use Rattle.rules.specs.Network.{literalByteSound, recordSound, networkSound};
+ghost use Rattle.rules.specs.Bytes.{pick, at, all, word, greatest};
+ghost use Rattle.rules.specs.Network.{combine, recordOf, recordCeiling, recordFormed, ceilingAt, recordSound, networkSound};
+ghost use Rattle.network_scan.specs.Kinds.{literalGrades, literalSound, gateSound, ceilingIs};
 
 const MAX_RECORDS: usize = 4096;
 
 // By a record's kind, 1 for each byte that must be zero.
 const MUST_BE_ZERO: [[u8; RECORD]; 4] = [
-    [0, 0, 1, 1, 1, 1, 1, 1, 1, 1, 1, 1, 1, 1, 1, 1],
-    [0, 0, 1, 1, 1, 1, 1, 1, 0, 0, 0, 0, 0, 0, 0, 0],
-    [0, 1, 1, 1, 0, 0, 0, 0, 1, 1, 1, 1, 1, 1, 1, 1],
-    [0, 1, 1, 1, 0, 0, 0, 0, 1, 1, 1, 1, 1, 1, 1, 1],
+    [0, 0, 0, 1, 1, 1, 1, 1, 1, 1, 1, 1, 1, 1, 1, 1],
+    [0, 0, 0, 1, 1, 1, 1, 1, 0, 0, 0, 0, 0, 0, 0, 0],
+    [0, 1, 0, 1, 0, 0, 0, 0, 1, 1, 1, 1, 1, 1, 1, 1],
+    [0, 1, 0, 1, 0, 0, 0, 0, 1, 1, 1, 1, 1, 1, 1, 1],
 ];
 
 // A byte that must be zero, by its entry in the table; 0 for any other.
@@ -40,33 +43,19 @@ fn row_sound(r: &[u8], row: [u8; RECORD]) -> bool
     sum == 0
 }
 
-// What is wrong with a literal's byte for one value: 0 for nothing.
-fn grade_fault(card: u8, m: u8, v: u8, grade: u8) -> u32
-    ensures { λ q. ⌜ (eqb q 0 ≡ literalByteSound card m v grade) × (q ≤ 255) ⌝ }
-{
-    if v < card {
-        if grade < m { 0 } else { 1 }
-    } else {
-        grade as u32
-    }
-}
-
-// A literal's bytes for all eight values: the sum of their faults is 0.
-fn grades_sound(r: &[u8], card: u8, m: u8) -> bool
+// A constant's byte 1 is a grade, and byte 2 the same.
+fn constant_sound(r: &[u8], m: u8) -> bool
     requires { ⌜ length (now r) ≡ 16 ⌝ }
-    ensures { λ q. ⌜ q ≡ all 8 (λ v. literalByteSound card m v (at (now (r .entry)) (8 + v))) ⌝ }
+    ensures { λ q. ⌜ q ≡ (ltb (at (now (r .entry)) 1) m && ceilingIs (at (now (r .entry)) 1) (now (r .entry))) ⌝ }
 {
-    let mut sum: u32 = 0;
-    for v in 0..PLACES {
-        sum = sum + grade_fault(card, m, v as u8, r[8 + v]);
-    }
-    sum == 0
+    r[1] < m && r[2] == r[1]
 }
 
-// The literal's condition is there, and its bytes are grades.
+// The literal's condition is there, its bytes are grades, and byte 2 is the greatest of them: past the cardinality
+// they are zeros, which exceed none.
 fn literal_sound(r: &[u8], ks: [u8; PLACES], m: u8) -> bool
     requires { ⌜ length (now r) ≡ 16 ⌝ }
-    ensures { λ q. ⌜ q ≡ (present ks (at (now (r .entry)) 1) && all 8 (λ v. literalByteSound (card ks (at (now (r .entry)) 1)) m v (at (now (r .entry)) (8 + v)))) ⌝ }
+    ensures { λ q. ⌜ q ≡ (literalSound ks m (now (r .entry)) && ceilingIs (greatest (literalGrades ks (now (r .entry)))) (now (r .entry))) ⌝ }
 {
     let i = r[1] as usize;
     if 8 <= i {
@@ -76,7 +65,13 @@ fn literal_sound(r: &[u8], ks: [u8; PLACES], m: u8) -> bool
     if card < 2 {
         return false;
     }
-    grades_sound(r, card, m)
+    if m <= r[2] {
+        return false;
+    }
+    if !tests::zero_between(r, 8 + (card as usize), RECORD) {
+        return false;
+    }
+    r[2] == grades::greatest(&r[8..RECORD])
 }
 
 // The number of two bytes at j, the low byte first.
@@ -87,53 +82,69 @@ pub fn word(r: &[u8], j: usize) -> usize
     r[j] as usize + 256 * (r[j + 1] as usize)
 }
 
-// Both records of gate k stand before it.
-fn gate_sound(r: &[u8], k: usize) -> bool
-    requires { ⌜ length (now r) ≡ 16 ⌝ }
-    ensures { λ q. ⌜ q ≡ (ltb (word (now (r .entry)) 4) k && ltb (word (now (r .entry)) 6) k) ⌝ }
+// The greater number: one test of it serves for both.
+fn later(a: usize, b: usize) -> usize
+    ensures { λ n. ⌜ n ≡ max a b ⌝ }
 {
-    if k <= word(r, 4) {
-        return false;
-    }
-    word(r, 6) < k
+    if a < b { b } else { a }
 }
 
-// Whether the sixteen bytes r are sound as record k. Each row is read by its own number: a constant table is
-// laid out anew wherever it is read by a number that is not known.
-fn record_sound(r: &[u8], ks: [u8; PLACES], m: u8, k: usize) -> bool
-    requires { ⌜ length (now r) ≡ 16 ⌝ }
-    ensures { λ q. ⌜ q ≡ recordSound ks m k (now (r .entry)) ⌝ }
+// Both records of gate k stand before it, and byte 2 is the gate of theirs.
+fn gate_sound(network: &[u8], r: &[u8], k: usize, by: Gate) -> bool
+    requires { ⌜ (length (now r) ≡ 16) × (16 * k ≤ length (now network)) ⌝ }
+    ensures { λ q. ⌜ q ≡ (gateSound k (now (r .entry)) && ceilingIs (combine by (ceilingAt (now (network .entry)) (word (now (r .entry)) 4)) (ceilingAt (now (network .entry)) (word (now (r .entry)) 6))) (now (r .entry))) ⌝ }
+{
+    let left = word(r, 4);
+    let right = word(r, 6);
+    if k <= later(left, right) {
+        return false;
+    }
+    let top = grades::combined(by, network[RECORD * left + 2], network[RECORD * right + 2]);
+    r[2] == top
+}
+
+// Whether the sixteen bytes r are sound as record k of a network. Each row is read by its own number: a constant
+// table is laid out anew wherever it is read by a number that is not known.
+fn record_sound(network: &[u8], r: &[u8], ks: [u8; PLACES], m: u8, k: usize) -> bool
+    requires { ⌜ (length (now r) ≡ 16) × (16 * k ≤ length (now network)) ⌝ }
+    ensures { λ q. ⌜ q ≡ (recordFormed ks m k (now (r .entry)) && ceilingIs (recordCeiling (ceilingAt (now (network .entry))) (recordOf ks (now (r .entry)))) (now (r .entry))) ⌝ }
 {
     match r[0] {
-        kinds::CONSTANT => row_sound(r, MUST_BE_ZERO[0]) && r[1] < m,
+        kinds::CONSTANT => row_sound(r, MUST_BE_ZERO[0]) && constant_sound(r, m),
         kinds::LITERAL => row_sound(r, MUST_BE_ZERO[1]) && literal_sound(r, ks, m),
-        kinds::MIN => row_sound(r, MUST_BE_ZERO[2]) && gate_sound(r, k),
-        kinds::MAX => row_sound(r, MUST_BE_ZERO[3]) && gate_sound(r, k),
+        kinds::MIN => row_sound(r, MUST_BE_ZERO[2]) && gate_sound(network, r, k, Gate::Min),
+        kinds::MAX => row_sound(r, MUST_BE_ZERO[3]) && gate_sound(network, r, k, Gate::Max),
         _ => false,
     }
 }
 
-// The same for record k of a network.
+// The same for record k where it stands.
 fn record_good(network: &[u8], ks: [u8; PLACES], m: u8, k: usize) -> bool
     requires { ⌜ 16 * k + 16 ≤ length (now network) ⌝ }
-    ensures { λ q. ⌜ q ≡ recordSound ks m k (recordAt (now (network .entry)) k) ⌝ }
+    ensures { λ q. ⌜ q ≡ recordSound ks m (now (network .entry)) k ⌝ }
 {
     let from = RECORD * k;
     let to = from + RECORD;
-    record_sound(&network[from..to], ks, m, k)
+    record_sound(network, &network[from..to], ks, m, k)
 }
 
-// Whether each of the first records has its mark.
+// 0 where there is a mark, else 1.
+fn unmarked(mark: u8) -> u32
+    ensures { λ q. ⌜ (eqb q 0 ≡ eqb mark 1) × (q ≤ 1) ⌝ }
+{
+    if mark == 1 { 0 } else { 1 }
+}
+
+// Whether each of the first records has its mark. Those that lack it are counted, since adding needs no branch.
 fn all_marked(marks: &[u8; 4096], count: usize) -> bool
     requires { ⌜ count ≤ 4096 ⌝ }
     ensures { λ q. ⌜ q ≡ all count (λ k. eqb (at (now (marks .entry)) k) 1) ⌝ }
 {
+    let mut sum: u32 = 0;
     for k in 0..count {
-        if marks[k] != 1 {
-            return false;
-        }
+        sum = sum + unmarked(marks[k]);
     }
-    true
+    sum == 0
 }
 
 // Whether the network is sound over the places ks, with m grades: each good record gets a mark.

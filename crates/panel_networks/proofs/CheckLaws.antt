@@ -6,17 +6,19 @@ use native.Mathlib.Omega.{arith}
 use Rattle.rules.specs.declared.Refusal.{Refusal}
 use Rattle.rules.specs.Refusal.{refusalNumber}
 use Rattle.rules.specs.NetworkCalls.{CheckResult}
+use Rattle.rules.specs.Demands.{Capped}
 use Rattle.rules.specs.Verdict.{Verdict, refused, verdictNumber}
 use Rattle.shape.specs.declared.Shape.{Shape}
-use Rattle.shape.specs.Shapes.{shapeOfBytes}
+use Rattle.shape.specs.Shapes.{placesOf, shapeOfBytes}
 use Rattle.network.specs.declared.CheckAnswer.{CheckAnswer}
 use Rattle.network.specs.declared.CheckAnswer.the-variants as answers
 use Rattle.network.specs.Checking.{checkVerdict, checkRows, Checked}
+use Rattle.network.proofs.CheckLaws.{check-capped}
 use Rattle.panel_answers.specs.Answers.{lentShape, lent, callNumber, resultNumber, checkNumber, FewCells}
 use Rattle.panel_networks.specs.Checks.{FirstOutside, Checks}
 use Rattle.laws.proofs.RefusalLaws.{small}
 use Rattle.laws.proofs.ByteLaws.{past-same}
-use Rattle.panel_answers.proofs.ShapeLaws.{Made, ten-lent, lent-refused}
+use Rattle.panel_answers.proofs.ShapeLaws.{Made, called, lent-accepted, ten-lent, lent-refused}
 use Rattle.panel_networks.proofs.OutsideLaws.{Outside, outside-is}
 
 -- the number of an answer is that of its verdict
@@ -60,6 +62,11 @@ module _ (net bytes lower upper work : List ℕ) (r : ℕ) where
   abbrev rows : Shape → Verdict CheckResult
   rows shape = checkRows shape net lower upper work
 
+  capped : r ≡ callNumber (lent bytes rows) resultNumber → r < 65536 → Capped (placesOf (lentShape bytes)) net
+  capped e h =
+      let v = called (lent bytes rows) resultNumber (omega arith) in
+      check-capped (lentShape bytes) net lower upper work (v .0) (lent-accepted bytes rows (v .1) .1)
+
   pub checks : (x : Shape) (a : CheckAnswer) (after : List ℕ) → Made bytes x → Checked x net lower upper work after a → r ≡ checkNumber a → Checks net bytes lower upper work r after
   checks x a after made found number =
       let f : Checked (lentShape bytes) net lower upper work after a = subst (λ (y : Shape). Checked y net lower upper work after a) (made .same) found in
@@ -68,6 +75,7 @@ module _ (net bytes lower upper work : List ℕ) (r : ℕ) where
         answer = number ∙ verdict-number a ∙ ap (λ (v : Verdict CheckResult). callNumber v resultNumber) (f .answers ∙ same);
         within-means = λ e. let w = f .within-means (is-within a (sym number ∙ e)) in (sym (ap verdictNumber same) ∙ w .0, w .1);
         within-when = λ z h. number ∙ ap checkNumber (f .within-when (ap verdictNumber same ∙ z) h);
+        capped = λ h. capped (number ∙ verdict-number a ∙ ap (λ (v : Verdict CheckResult). callNumber v resultNumber) (f .answers ∙ same)) h;
         outside-means = λ low high.
             subst (λ (n : ℕ). FirstOutside (lentShape bytes) net lower upper ((n - 1) / 16) ((n - 1) % 16)) (sym number)
             (is-outside (lentShape bytes) net lower upper a (told f) (omega arith) (omega arith));
@@ -82,6 +90,7 @@ module _ (net bytes lower upper work : List ℕ) (r : ℕ) where
         answer = number ∙ ap (λ (v : Verdict CheckResult). callNumber v resultNumber) same;
         within-means = λ z. absurd (omega arith);
         within-when = λ z h. let n : refusalNumber q ≡ 0 = ap verdictNumber same ∙ z in absurd (omega (arith, small q .0));
+        capped = λ h. absurd (omega arith);
         outside-means = λ low high. absurd (omega arith);
         refusal-keeps = λ h. refl;
         kept = past-same;

@@ -20,7 +20,7 @@ use Rattle.shape.specs.declared.Shape.{Shape}
 use Rattle.shape.specs.Shapes.{shapeOfBytes}
 use Rattle.network.specs.Evaluating.{GradeAt}
 use Rattle.network.specs.EvaluatingEach.{gradesAfter, eachRows, EvaluatedEach}
-use Rattle.network.proofs.EachLaws.{each-grade, each-single, stops-single}
+use Rattle.network.proofs.EachLaws.{each-grade, each-capped, each-single, stops-single}
 use Rattle.panel_answers.specs.Answers.{lentShape, lent, callNumber, answerNumber, outcomeNumber}
 use Rattle.panel_answers.proofs.ShapeLaws.{Made, called, lent-accepted, ten-lent, made-lent, lent-refused}
 use Rattle.panel_answers.proofs.OutcomeLaws.{outcome-number}
@@ -66,6 +66,7 @@ module _ (net bytes visits grades work : List ℕ) where
           grade-means = λ z i h l.
               let v = wrote z in
               subst (λ (g : List ℕ). GradeAt (lentShape bytes) net (at visits i) (at g i)) (after-rows (v .1)) (each-grade (lentShape bytes) net visits grades work (v .2) i h l);
+          capped = λ z. each-capped (lentShape bytes) net visits grades work (wrote z .2);
           as-single = λ z i h w w′ single room found.
               let v = wrote z in
               found .answer

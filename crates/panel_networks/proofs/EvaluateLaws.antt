@@ -6,9 +6,10 @@ use native.Mathlib.Omega.{arith}
 use lib.ListN.{length}
 use Rattle.rules.specs.declared.Refusal.{Refusal}
 use Rattle.rules.specs.Verdict.{refused}
+use Rattle.rules.specs.Demands.{Capped}
 use Rattle.laws.proofs.ByteLaws.{past-same}
 use Rattle.shape.specs.declared.Shape.{Shape}
-use Rattle.shape.specs.Shapes.{shapeOfBytes}
+use Rattle.shape.specs.Shapes.{placesOf, shapeOfBytes}
 use Rattle.network.specs.declared.Evaluation.{Evaluation}
 use Rattle.network.specs.declared.Evaluation.the-variants.{Grade, Refused}
 use Rattle.network.specs.Evaluating.{Evaluated, GradeAt}
@@ -21,17 +22,18 @@ keeps : (work after : List ℕ) (e : Evaluation) (r : ℕ) → ((q : Refusal) �
 keeps work after (Grade grade) r k b h = absurd (omega (arith, b grade refl))
 keeps work after (Refused q) r k b h = k q refl
 
--- and one below 256 the network's grade
-means : (s : Shape) (net : List ℕ) (cell : ℕ) (e : Evaluation) (r : ℕ) → ((q : ℕ) → e ≡ Grade q → GradeAt s net cell q) → Answered e r → r < 256 → GradeAt s net cell r
-means s net cell (Grade q) r f a h = subst (λ (x : ℕ). GradeAt s net cell x) (sym (a .number)) (f q refl)
-means s net cell (Refused q) r f a h = absurd (omega (arith, a .number))
+-- and one below 256 a grade
+means : {P : ℕ → Type 0} (e : Evaluation) (r : ℕ) → ((q : ℕ) → e ≡ Grade q → P q) → Answered e r → r < 256 → P r
+means {P} (Grade q) r f a h = subst P (sym (a .number)) (f q refl)
+means (Refused q) r f a h = absurd (omega (arith, a .number))
 
 module _ (net bytes : List ℕ) (cell : ℕ) (work : List ℕ) where
   pub evaluates : (s : Shape) (e : Evaluation) (after : List ℕ) (r : ℕ) → Made bytes s → Evaluated s net cell work after e → Answered e r → Evaluates net bytes cell work after r
   evaluates s e after r made found answered =
       record {
         answer = answered .number ∙ ap answerNumber (found .answers ∙ made-lent bytes (evaluateRows net (length work) cell) made);
-        grade-means = λ h. subst (λ (x : Shape). GradeAt x net cell r) (made .same) (means s net cell e r (found .grade-means) answered h);
+        grade-means = λ h. subst (λ (x : Shape). GradeAt x net cell r) (made .same) (means {P = GradeAt s net cell} e r (found .grade-means) answered h);
+        capped = λ h. subst (λ (x : Shape). Capped (placesOf x) net) (made .same) (means {P = λ q. Capped (placesOf s) net} e r (found .capped) answered h);
         refusal-keeps = keeps work after e r (found .refusal-keeps) (answered .below);
         kept = found .kept;
       }
@@ -41,6 +43,7 @@ module _ (net bytes : List ℕ) (cell : ℕ) (work : List ℕ) where
       record {
         answer = answered .number ∙ ap answerNumber (sym (lent-refused bytes p (evaluateRows net (length work) cell) (λ s e. rw e)));
         grade-means = λ h. absurd (omega (arith, answered .number));
+        capped = λ h. absurd (omega (arith, answered .number));
         refusal-keeps = λ h. refl;
         kept = past-same;
       }

@@ -8,6 +8,7 @@ use Rattle.rules.specs.Cell.{cells}
 use Rattle.rules.specs.Verdict.{Verdict, verdictNumber}
 use Rattle.rules.specs.Network.{evaluate}
 use Rattle.rules.specs.NetworkCalls.{CheckResult}
+use Rattle.rules.specs.Demands.{Capped}
 use Rattle.shape.specs.declared.Shape.{Shape}
 use Rattle.shape.specs.Shapes.{placesOf}
 use Rattle.network.specs.Checking.{checkRows, EveryWithin}
@@ -30,6 +31,8 @@ module _ (net bytes lower upper work : List ℕ) where
     pub answer : r ≡ callNumber verdict resultNumber
     pub within-means : r ≡ 0 → (verdictNumber verdict ≡ 0) × EveryWithin (lentShape bytes) net lower upper
     pub within-when : verdictNumber verdict ≡ 0 → EveryWithin (lentShape bytes) net lower upper → r ≡ 0
+    -- the ceilings of a network that was let pass bound the grades of its records
+    pub capped : r < 65536 → Capped (placesOf (lentShape bytes)) net
     pub outside-means : 1 ≤ r → r < 65536 → FirstOutside (lentShape bytes) net lower upper ((r - 1) / 16) ((r - 1) % 16)
     pub refusal-keeps : 65536 ≤ r → after ≡ work
     pub kept : Past (length net / 16) work after

@@ -6,6 +6,8 @@ use lib.ListN.{length}
 use Rattle.rules.specs.Bytes.{at, Past}
 use Rattle.rules.specs.Verdict.{Verdict}
 use Rattle.rules.specs.Visits.{byteVerdict}
+use Rattle.rules.specs.Demands.{Capped}
+use Rattle.shape.specs.Shapes.{placesOf}
 use Rattle.network.specs.Evaluating.{GradeAt}
 use Rattle.network.specs.EvaluatingEach.{gradesAfter, eachRows}
 use Rattle.panel_answers.specs.Answers.{lentShape, lentCells, lent, callNumber, answerNumber}
@@ -22,6 +24,8 @@ module _ (net bytes visits grades work : List ℕ) where
     pub grades-after : grades′ ≡ gradesAfter verdict grades
     -- in plain words, the byte for a cell is the network's grade there
     pub grade-means : r ≡ 0 → (i : ℕ) → i < length visits → at visits i < lentCells bytes → GradeAt (lentShape bytes) net (at visits i) (at grades′ i)
+    -- the ceilings of a network that was let pass bound the grades of its records
+    pub capped : r ≡ 0 → Capped (placesOf (lentShape bytes)) net
     -- and each byte says what `grades_evaluate` answers for its number, whatever work buffer that is lent
     pub as-single : r ≡ 0 → (i : ℕ) → i < length visits → (w w′ : List ℕ) (single : ℕ) → length net / 16 ≤ length w
         → Evaluates net bytes (at visits i) w w′ single → single ≡ answerNumber (byteVerdict (at grades′ i))

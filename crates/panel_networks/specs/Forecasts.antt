@@ -1,5 +1,5 @@
 -- What `grades_forecast` promises.
-use Prim.Native.Nat.{ℕ, _*_, _/_, _%_, _≤_, _<_}
+use Prim.Native.Nat.{ℕ, _/_, _%_, _≤_, _<_}
 use mathlib.Core.Path.{_≡_}
 use mathlib.Core.List.{List, _∷_}
 use lib.Dec.{leb}
@@ -42,7 +42,7 @@ module _ (bytes lower upper work depth : List ℕ) where
       → (count ≡ n) × (levels ≡ networkDepth (networkRecords (placesOf (lentShape bytes)) (written n network′)))
 
   -- how many records, and every byte of the depth's buffer, by these rows; a refusal leaves the work buffer too, and nothing
-  -- changes its length or its bytes past sixteen for each cell
+  -- changes its length or its bytes past those that it asks for
   pub record Forecasts (r : ℕ) (work′ depth′ : List ℕ) : Type 0 where
     pub answer : r ≡ callNumber verdict (λ f. f .count)
     pub depth-after : depth′ ≡ depthAfter verdict depth

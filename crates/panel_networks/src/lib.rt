@@ -45,7 +45,7 @@ pub fn evaluate_each(
     }
 }
 
-// The network of a table: how many records were written. The work buffer has 16 bytes for each
+// The network of a table: how many records were written. The work buffer has 32 bytes for each
 // cell, the network buffer 16 for each of the most records that there can be.
 pub fn compile(shape: &[u8], lower: &[u8], upper: &[u8], work: &mut [u8], network: &mut [u8]) -> u32
     ensures { λ r. ⌜ Compiles (now (shape .entry)) (now (lower .entry)) (now (upper .entry)) (now (work .entry)) (now (network .entry)) r (now (work .exit)) (now (network .exit)) ⌝ }

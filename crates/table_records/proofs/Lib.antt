@@ -1,3 +1,3 @@
 -- Laws of `table_records`.
-pub mod ZeroLaws
+pub mod MiddleLaws
 pub mod SeenLaws

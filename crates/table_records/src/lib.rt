@@ -16,6 +16,7 @@ use rules::RECORD;
 use rules::Refusal;
 use rules::kinds;
 use shape::Shape;
+use tables::tests;
 
 // What the records so far say: conditions and grades in a shape, m being 0 before the grades
 // record, and the number after that of the last cell.
@@ -27,19 +28,6 @@ pub struct Seen {
 pub enum Judged {
     Accepted(Seen),
     Refused(Refusal),
-}
-
-// Whether the bytes from a up to, but not with, b are zero.
-fn zero_between(r: &[u8], a: usize, b: usize) -> bool
-    requires { ⌜ (a ≤ b) × (b ≤ length (now r)) ⌝ }
-    ensures { λ q. ⌜ q ≡ zeros (now (r .entry)) a b ⌝ }
-{
-    for j in a..b {
-        if r[j] != 0 {
-            return false;
-        }
-    }
-    true
 }
 
 // A condition comes before the grades record, and has the next number.
@@ -92,7 +80,7 @@ fn condition(s: Seen, r: &[u8]) -> Judged
     ensures { λ q. ⌜ verdictOf q ≡ conditionRecord (seenOf s) (now (r .entry)) ⌝ }
 {
     let shape = s.shape;
-    if !zero_between(r, 3, RECORD) {
+    if !tests::zero_between(r, 3, RECORD) {
         return Judged::Refused(Refusal::RecordBytes);
     }
     if !condition_in_order(shape, r[1]) {
@@ -121,7 +109,7 @@ fn grades(s: Seen, r: &[u8]) -> Judged
     ensures { λ q. ⌜ verdictOf q ≡ gradesRecord (seenOf s) (now (r .entry)) ⌝ }
 {
     let shape = s.shape;
-    if !zero_between(r, 2, RECORD) {
+    if !tests::zero_between(r, 2, RECORD) {
         return Judged::Refused(Refusal::RecordBytes);
     }
     if shape.m != 0 {
@@ -200,7 +188,7 @@ fn cell_zeros(n: u8, r: &[u8], edition: Edition) -> bool
     if !cell_clear(r, edition) {
         return false;
     }
-    zero_between(r, 8 + (n as usize), RECORD)
+    tests::zero_between(r, 8 + (n as usize), RECORD)
 }
 
 fn limits_in_order(lower: u8, upper: u8, m: u8) -> bool

@@ -5,3 +5,4 @@ pub mod ScanLaws
 pub mod LineLaws
 pub mod OverLaws
 pub mod PackLaws
+pub mod ZeroLaws

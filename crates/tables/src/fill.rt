@@ -8,7 +8,6 @@ ghost use lib.ListN.{length, drop};
 ghost use Rattle.rules.specs.Bytes.{at, tabulate};
 ghost use Rattle.rules.specs.Join.{above};
 ghost use Rattle.rules.specs.Network.{combine};
-ghost use Rattle.tables.specs.Line.{best};
 ghost use Rattle.tables.specs.Part.{part, Laid, Two};
 
 pub fn copy(w: &mut [u8], from: usize, to: usize, n: usize)
@@ -86,23 +85,13 @@ pub fn keep_above(w: &mut [u8], low: usize, high: usize, to: usize, n: usize)
     }
 }
 
-// Whether a gate takes the greater of two grades.
-fn takes_greater(gate: Gate) -> bool
-    ensures { λ r. ⌜ ((x y : ℕ) → best r x y ≡ combine gate x y) ⌝ }
-{
-    match gate {
-        Gate::Min => false,
-        Gate::Max => true,
-    }
-}
-
 // The gate of two tables.
 pub fn combine(w: &mut [u8], gate: Gate, a: usize, b: usize, to: usize, n: usize)
     requires { ⌜ Two (now w) a to n × Two (now w) b to n ⌝ }
     ensures { λ _. ⌜ Laid (now (w .entry)) to (tabulate n (λ c. combine gate (at (part (now (w .entry)) a n) c) (at (part (now (w .entry)) b n) c))) n (now (w .exit)) ⌝ }
 {
-    let greatest = takes_greater(gate);
+    let greater = grades::takes_greater(gate);
     for c in 0..n {
-        w[to + c] = grades::extreme(greatest, w[a + c], w[b + c]);
+        w[to + c] = grades::extreme(greater, w[a + c], w[b + c]);
     }
 }

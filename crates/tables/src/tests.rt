@@ -1,10 +1,10 @@
-// Tests of every cell. Each stops at the first cell that fails.
+// Tests of every cell, or of every byte. Each stops at the first that fails.
 use crate::grades;
 ghost use Prim.Native.Nat.{_+_, _≤_, max};
 ghost use mathlib.Core.Path.{_≡_};
 ghost use lib.Dec.{leb};
 ghost use lib.ListN.{length};
-ghost use Rattle.rules.specs.Bytes.{at, all};
+ghost use Rattle.rules.specs.Bytes.{at, all, zeros};
 ghost use Rattle.tables.specs.Part.{part};
 
 // Whether no cell of the low table is above the high table's.
@@ -27,6 +27,19 @@ pub fn within_either(w: &[u8], low: usize, a: usize, b: usize, n: usize) -> bool
 {
     for c in 0..n {
         if grades::extreme(true, w[a + c], w[b + c]) < w[low + c] {
+            return false;
+        }
+    }
+    true
+}
+
+// Whether the bytes from a up to, but not with, b are zero.
+pub fn zero_between(r: &[u8], a: usize, b: usize) -> bool
+    requires { ⌜ b ≤ length (now r) ⌝ }
+    ensures { λ q. ⌜ q ≡ zeros (now (r .entry)) a b ⌝ }
+{
+    for j in a..b {
+        if r[j] != 0 {
             return false;
         }
     }

@@ -8,7 +8,7 @@ use Rattle.rules.specs.Bytes.{at, tabulate}
 use Rattle.rules.specs.Listing.{text, field, fields}
 use Rattle.listing.specs.Putting.{gradeBytes}
 use Rattle.listing.proofs.PutLaws.{put-then, put-as, put-within}
-use Rattle.listing.proofs.KindLaws.{few}
+use Rattle.shape.proofs.ShapeLaws.{sound-shape}
 use Rattle.listing.proofs.put_literal.Statement.{statement}
 use Rattle.listing.proofs.put_literal.Tie as tie
 
@@ -33,7 +33,7 @@ cardinality-requires c κs = search needs
 put-grades-requires : tie.Need-put-grades-requires
 put-grades-requires c κs =
     let a = c .before .before .before .before .before .before .before .before .before .before .before .before .before .before .args in
-    let h = few (a .shape) (c .before .before .before .before .before .before .before .before .before .before .before .before .before .before .pre .1) (at (a .bytes .now) 1) in
+    let h = sound-shape (a .shape) (c .before .before .before .before .before .before .before .before .before .before .before .before .before .before .pre .1) .values-few (at (a .bytes .now) 1) in
     let e = c .cardinality .ensures in
     (search needs, omega arith, omega arith)
 
@@ -43,7 +43,7 @@ same-length c = search needs
 returns : tie.Need-returns
 returns c =
     let a = c .before .before .before .before .before .before .before .before .before .before .before .before .before .before .before .before .before .args in
-    let h = few (a .shape) (c .before .before .before .before .before .before .before .before .before .before .before .before .before .before .before .before .before .pre .1) (at (a .bytes .now) 1) in
+    let h = sound-shape (a .shape) (c .before .before .before .before .before .before .before .before .before .before .before .before .before .before .before .before .before .pre .1) .values-few (at (a .bytes .now) 1) in
     let e = c .before .before .before .cardinality .ensures in
     put-within 56 (omega arith)
     (put-as (ap (λ (n : ℕ). text " L" ++ (field (at (a .bytes .now) 1) ++ fields (tabulate n (gradeBytes (a .bytes .now))))) e)

@@ -5,7 +5,7 @@ use borrow.Author.Needs.{needs}
 use Rattle.rules.specs.Listing.{recordText}
 use Rattle.shape.specs.Shapes.{placesOf}
 use Rattle.listing.proofs.PutLaws.{put-as, put-within}
-use Rattle.listing.proofs.KindLaws.{kind-constant, kind-literal, kind-min, kind-max}
+use Rattle.laws.proofs.KindLaws.{kind-constant, kind-literal, kind-min, kind-max}
 use Rattle.listing.proofs.put_text.Statement.{statement}
 use Rattle.listing.proofs.put_text.Tie as tie
 

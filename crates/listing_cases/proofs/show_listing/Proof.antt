@@ -25,6 +25,15 @@ array-write-network-6 c = search needs
 array-write-network-7 : tie.Need-array-write-network-7
 array-write-network-7 c = search needs
 
+array-write-network-8 : tie.Need-array-write-network-8
+array-write-network-8 c = search needs
+
+array-write-network-9 : tie.Need-array-write-network-9
+array-write-network-9 c = search needs
+
+array-write-network-10 : tie.Need-array-write-network-10
+array-write-network-10 c = search needs
+
 slice-aggregate-put-listing : tie.Need-slice-aggregate-put-listing
 slice-aggregate-put-listing c = search needs
 
@@ -60,6 +69,9 @@ show-listing-spec =
     array-write-network-5
     array-write-network-6
     array-write-network-7
+    array-write-network-8
+    array-write-network-9
+    array-write-network-10
     slice-aggregate-put-listing
     slice-aggregate-put-listing-2
     wide-requires

@@ -5,7 +5,6 @@ use native.Mathlib.Omega.{arith}
 use Rattle.rules.specs.Bytes.{at}
 use lib.ListN.{length}
 use Rattle.tables.proofs.PartLaws.{Filled, filled-more, filled-laid}
-use Rattle.network_records.proofs.PutLaws.{put-bytes, put-nowhere}
 use borrow.Author.Needs.{needs}
 use Rattle.network_records.proofs.put.Statement.{statement}
 use Rattle.network_records.proofs.put.Tie as tie
@@ -18,12 +17,6 @@ abbrev μ-loop : tie.MeasureT-loop
 
 mul-a : tie.Need-mul-a Inv-loop μ-loop
 mul-a c = search needs
-
-add-if1 : tie.Need-add-if1 Inv-loop μ-loop
-add-if1 c = search needs
-
-returns : tie.Need-returns Inv-loop μ-loop
-returns c = put-nowhere (c .if1 .taken)
 
 loop-holds : tie.Need-loop-holds Inv-loop μ-loop
 loop-holds c = search needs
@@ -49,8 +42,8 @@ loop-again c = let i = c .before .loop .inv in (search needs, refl, i .2, filled
 same-length : tie.Need-same-length Inv-loop μ-loop
 same-length c = search needs
 
-returns-2 : tie.Need-returns-2 Inv-loop μ-loop
-returns-2 c = put-bytes (filled-laid _ 16 (omega arith) (c .before .loop .inv .3) (λ k h. refl))
+returns : tie.Need-returns Inv-loop μ-loop
+returns c = filled-laid _ 16 (omega arith) (c .before .loop .inv .3) (λ k h. refl)
 
 pub put-spec : {M : Type 1} → statement M
 put-spec =
@@ -59,8 +52,6 @@ put-spec =
     Inv-loop
     μ-loop
     mul-a
-    add-if1
-    returns
     loop-holds
     array-read-net
     add-net
@@ -69,4 +60,4 @@ put-spec =
     loop-less
     loop-again
     same-length
-    returns-2)
+    returns)

@@ -1,33 +1,31 @@
 -- `network_scan::all_marked` meets its contract.
-use mathlib.Core.Path.{_≡_, sym, ap, _∙_}
+use mathlib.Core.Path.{_≡_, refl, ap, _∙_}
 use Prim.Native.Nat.{ℕ, _-_, _≤_}
 use native.Mathlib.Omega.{arith}
 use lib.Dec.{eqb}
-use mathlib.Core.Bool.{true}
-use Rattle.rules.specs.Bytes.{at, all}
-use Rattle.laws.proofs.TableLaws.{all-more, all-false}
-use borrow.Author.Tests.{eq-eqb, ne-eqb}
 use borrow.Author.Needs.{needs}
+use Rattle.rules.specs.Bytes.{at, all}
+use Rattle.network_scan.proofs.SumLaws.{sum-more}
 use Rattle.network_scan.proofs.all_marked.Statement.{statement}
 use Rattle.network_scan.proofs.all_marked.Tie as tie
 
 abbrev Inv-loop : tie.InvT-loop
-Inv-loop marks count k₀ k = (k ≤ count) × (all k (λ j. eqb (at marks j) 1) ≡ true)
+Inv-loop marks count sum₀ k₀ sum k = (k ≤ count) × (sum ≤ k) × (eqb sum 0 ≡ all k (λ j. eqb (at marks j) 1))
 
 abbrev μ-loop : tie.MeasureT-loop
-μ-loop marks count k₀ k = count - k
+μ-loop marks count sum₀ k₀ sum k = count - k
 
 loop-holds : tie.Need-loop-holds Inv-loop μ-loop
-loop-holds c = search needs
+loop-holds c = (search needs, search needs, refl)
 
-element-copy-out-if1 : tie.Need-element-copy-out-if1 Inv-loop μ-loop
-element-copy-out-if1 c = search needs
+element-copy-out-unmarked : tie.Need-element-copy-out-unmarked Inv-loop μ-loop
+element-copy-out-unmarked c = search needs
 
-returns : tie.Need-returns Inv-loop μ-loop
-returns c =
-    let a = c .before .before .before .before .args in
-    let k = c .before .before .before .loop .k in
-    sym (all-false (a .count) (λ j. eqb (at (a .marks .now) j) 1) k (search needs) (ne-eqb _ _ (c .if1 .taken)))
+unmarked-requires : tie.Need-unmarked-requires Inv-loop μ-loop
+unmarked-requires c κs = search needs
+
+add-sum : tie.Need-add-sum Inv-loop μ-loop
+add-sum c = let l = c .before .before .before .loop in omega (arith, l .inv .1, c .unmarked .ensures .1)
 
 add-k : tie.Need-add-k Inv-loop μ-loop
 add-k c = search needs
@@ -39,13 +37,13 @@ loop-again : tie.Need-loop-again Inv-loop μ-loop
 loop-again c =
     let a = c .before .before .before .before .args in
     let l = c .before .before .before .loop in
-    (search needs, all-more (l .k) (λ j. eqb (at (a .marks .now) j) 1) (l .inv .1) (eq-eqb _ _ (c .if1 .left)))
+    (search needs, omega (arith, l .inv .1, c .unmarked .ensures .1), sum-more (l .k) (l .sum) (c .unmarked .result) (λ j. eqb (at (a .marks .now) j) 1) (l .inv .2) (c .unmarked .ensures .0))
 
-returns-2 : tie.Need-returns-2 Inv-loop μ-loop
-returns-2 c =
+returns : tie.Need-returns Inv-loop μ-loop
+returns c =
     let a = c .before .before .args in
     let e : c .before .loop .k ≡ a .count = omega arith in
-    sym (ap (λ (n : ℕ). all n (λ j. eqb (at (a .marks .now) j) 1)) (sym e) ∙ c .before .loop .inv .1)
+    c .before .loop .inv .2 ∙ ap (λ (n : ℕ). all n (λ j. eqb (at (a .marks .now) j) 1)) e
 
 pub all-marked-spec : {M : Type 1} → statement M
 all-marked-spec =
@@ -54,9 +52,10 @@ all-marked-spec =
     Inv-loop
     μ-loop
     loop-holds
-    element-copy-out-if1
-    returns
+    element-copy-out-unmarked
+    unmarked-requires
+    add-sum
     add-k
     loop-less
     loop-again
-    returns-2)
+    returns)

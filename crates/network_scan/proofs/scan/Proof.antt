@@ -6,7 +6,6 @@ use native.Mathlib.Omega.{arith}
 use lib.ListN.{length}
 use mathlib.Core.Bool.{Bool, true, false}
 use borrow.Author.Tests.{lt-ltb, le-ltb, le-leb, lt-leb, eq-eqb, ne-eqb}
-use Rattle.rules.specs.Bytes.{recordAt}
 use Rattle.rules.specs.Network.{recordSound}
 use Rattle.network_scan.proofs.SoundLaws.{network-by}
 use Rattle.network_scan.proofs.MarkLaws.{Marked, marked-start, marked-good, marked-faulty, marked-all}
@@ -16,7 +15,7 @@ use Rattle.network_scan.proofs.scan.Tie as tie
 
 abbrev Inv-loop : tie.InvT-loop
 Inv-loop network ks m bytes count marks₀ k₀ marks k =
-    (k ≤ count) × Marked (λ j. recordSound ks m j (recordAt network j)) marks k
+    (k ≤ count) × Marked (recordSound ks m network) marks k
 
 abbrev μ-loop : tie.MeasureT-loop
 μ-loop network ks m bytes count marks₀ k₀ marks k = count - k
@@ -55,7 +54,7 @@ loop-again : tie.Need-loop-again Inv-loop μ-loop
 loop-again c =
     let a = c .before .before .before .before .before .before .before .before .args in
     let l = c .before .before .before .loop in
-    let good : ℕ → Bool = λ j. recordSound (a .ks) (a .m) j (recordAt (a .network .now) j) in
+    let good : ℕ → Bool = recordSound (a .ks) (a .m) (a .network .now) in
     ⊎-elim
     (λ w. rw (w .1) (search needs, marked-good good (l .marks) (l .k) (l .inv .1) (omega arith) (sym (c .before .record-good .ensures) ∙ w .0 .taken)))
     (λ w. rw (w .1) (search needs, marked-faulty good (l .marks) (l .k) (l .inv .1) (omega arith) (sym (c .before .record-good .ensures) ∙ w .0 .left)))
@@ -68,7 +67,7 @@ returns-4 : tie.Need-returns-4 Inv-loop μ-loop
 returns-4 c =
     let a = c .before .before .before .before .before .before .before .before .args in
     let l = c .before .before .before .loop in
-    let good : ℕ → Bool = λ j. recordSound (a .ks) (a .m) j (recordAt (a .network .now) j) in
+    let good : ℕ → Bool = recordSound (a .ks) (a .m) (a .network .now) in
     let n = length (a .network .now) / 16 in
     let e : l .k ≡ n = omega arith in
     c .all-marked .ensures

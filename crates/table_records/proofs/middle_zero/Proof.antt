@@ -2,7 +2,7 @@
 use Prim.Native.Nat.{ℕ, _+_, _*_}
 use mathlib.Core.Path.{_∙_, ap₂}
 use lib.Dec.{eqb}
-use Rattle.table_records.proofs.ZeroLaws.{middle-zero}
+use Rattle.table_records.proofs.MiddleLaws.{middle-zero}
 use borrow.Author.Needs.{needs}
 use Rattle.table_records.proofs.middle_zero.Statement.{statement}
 use Rattle.table_records.proofs.middle_zero.Tie as tie

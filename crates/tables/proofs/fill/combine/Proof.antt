@@ -12,10 +12,10 @@ use Rattle.tables.proofs.fill.combine.Statement.{statement}
 use Rattle.tables.proofs.fill.combine.Tie as tie
 
 abbrev Inv-loop : tie.InvT-loop
-Inv-loop w₀ a b to n greatest c₀ w c = (c ≤ n) × Filled w₀ to (λ k. best greatest (at (part w₀ a n) k) (at (part w₀ b n) k)) c w
+Inv-loop w₀ a b to n greater c₀ w c = (c ≤ n) × Filled w₀ to (λ k. best greater (at (part w₀ a n) k) (at (part w₀ b n) k)) c w
 
 abbrev μ-loop : tie.MeasureT-loop
-μ-loop w₀ a b to n greatest c₀ w c = n - c
+μ-loop w₀ a b to n greater c₀ w c = n - c
 
 takes-greater-requires : tie.Need-takes-greater-requires Inv-loop μ-loop
 takes-greater-requires c κs = search needs

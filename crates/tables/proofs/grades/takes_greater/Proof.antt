@@ -1,7 +1,7 @@
--- `tables::fill::takes_greater` meets its contract.
+-- `tables::grades::takes_greater` meets its contract.
 use borrow.Author.Needs.{needs}
-use Rattle.tables.proofs.fill.takes_greater.Statement.{statement}
-use Rattle.tables.proofs.fill.takes_greater.Tie as tie
+use Rattle.tables.proofs.grades.takes_greater.Statement.{statement}
+use Rattle.tables.proofs.grades.takes_greater.Tie as tie
 
 enum-told : tie.Need-enum-told
 enum-told c = search needs

@@ -1,18 +1,18 @@
--- `table_records::zero_between` meets its contract.
+-- `tables::tests::zero_between` meets its contract.
 use mathlib.Core.Path.{_≡_, sym, ap, _∙_}
-use Prim.Native.Nat.{ℕ, _+_, _-_, _≤_}
+use Prim.Native.Nat.{ℕ, _+_, _-_, _≤_, max}
 use native.Mathlib.Omega.{arith}
 use mathlib.Core.Bool.{true}
 use lib.Dec.{eqb}
 use Rattle.rules.specs.Bytes.{at, all}
 use borrow.Author.Tests.{eq-eqb, ne-eqb}
-use Rattle.table_records.proofs.ZeroLaws.{zeros-none, zeros-more, zeros-stop}
+use Rattle.tables.proofs.ZeroLaws.{zeros-none, zeros-more, zeros-stop}
 use borrow.Author.Needs.{needs}
-use Rattle.table_records.proofs.zero_between.Statement.{statement}
-use Rattle.table_records.proofs.zero_between.Tie as tie
+use Rattle.tables.proofs.tests.zero_between.Statement.{statement}
+use Rattle.tables.proofs.tests.zero_between.Tie as tie
 
 abbrev Inv-loop : tie.InvT-loop
-Inv-loop r a b j₀ j = (a ≤ j) × (j ≤ b) × (all (j - a) (λ i. eqb (at r (a + i)) 0) ≡ true)
+Inv-loop r a b j₀ j = (a ≤ j) × (j ≤ max a b) × (all (j - a) (λ i. eqb (at r (a + i)) 0) ≡ true)
 
 abbrev μ-loop : tie.MeasureT-loop
 μ-loop r a b j₀ j = b - j
@@ -45,8 +45,8 @@ returns-2 : tie.Need-returns-2 Inv-loop μ-loop
 returns-2 c =
     let a = c .before .before .args in
     let l = c .before .loop in
-    let e : l .j ≡ a .b = omega arith in
-    sym (ap (λ (n : ℕ). all (n - a .a) (λ i. eqb (at (a .r .now) (a .a + i)) 0)) (sym e) ∙ l .inv .2)
+    let e : a .b - a .a ≡ l .j - a .a = omega (arith, l .inv .1) in
+    sym (ap (λ (n : ℕ). all n (λ i. eqb (at (a .r .now) (a .a + i)) 0)) e ∙ l .inv .2)
 
 pub zero-between-spec : {M : Type 1} → statement M
 zero-between-spec =

@@ -1,35 +1,15 @@
--- Bytes that must be zero.
-use Prim.Native.Nat.{ℕ, _+_, _-_, _*_, _≤_, _<_}
-use mathlib.Core.Path.{_≡_, sym, _∙_, ap}
-use mathlib.Core.Bool.{Bool, true, false}
+-- Bytes 4 to 7 of a record, as one number.
+use Prim.Native.Nat.{ℕ, _+_, _*_}
+use mathlib.Core.Path.{_≡_, sym, _∙_}
+use mathlib.Core.Bool.{false}
 use mathlib.Core.List.{List}
 use native.Mathlib.Omega.{arith}
 use borrow.Author.Tests.{eq-eqb, ne-eqb}
 use lib.Dec.{eqb}
-use Rattle.rules.specs.Bytes.{at, all, zeros}
+use Rattle.rules.specs.Bytes.{at, zeros}
 use Rattle.laws.proofs.TestLaws.{and-both, by-equal}
-use Rattle.laws.proofs.TableLaws.{all-more, all-false}
+use Rattle.tables.proofs.ZeroLaws.{zeros-stop}
 
--- a loop over the bytes from a on
-module _ (r : List ℕ) (a : ℕ) where
-  abbrev zero-at : ℕ → Bool
-  zero-at i = eqb (at r (a + i)) 0
-
-  pub zeros-none : all (a - a) zero-at ≡ true
-  zeros-none = let e : 0 ≡ a - a = omega arith in ap (λ (n : ℕ). all n zero-at) (sym e)
-
-  here : (j : ℕ) → a ≤ j → zero-at (j - a) ≡ eqb (at r j) 0
-  here j h = let e : a + (j - a) ≡ j = omega arith in ap (λ (i : ℕ). eqb (at r i) 0) e
-
-  pub zeros-more : (j : ℕ) → a ≤ j → all (j - a) zero-at ≡ true → eqb (at r j) 0 ≡ true → all (j + 1 - a) zero-at ≡ true
-  zeros-more j h q z =
-      let e : j + 1 - a ≡ j - a + 1 = omega arith in
-      ap (λ (n : ℕ). all n zero-at) e ∙ all-more (j - a) zero-at q (here j h ∙ z)
-
-  pub zeros-stop : (b j : ℕ) → a ≤ j → j < b → eqb (at r j) 0 ≡ false → zeros r a b ≡ false
-  zeros-stop b j h l z = all-false (b - a) zero-at (j - a) (omega arith) (here j h ∙ z)
-
--- bytes 4 to 7, as one number
 module _ (r : List ℕ) where
   abbrev middle : ℕ
   middle = at r 4 + 256 * at r 5 + 65536 * (at r 6 + 256 * at r 7)

@@ -1,0 +1,2 @@
+-- What the contracts of `network_scan` cite.
+pub mod Kinds
