@@ -59,15 +59,21 @@ extern "C" {
  * A set of conditions is one byte, bit i for condition i.
  *
  * network: 1 to 4096 records of sixteen bytes, numbered from 0. Byte 0 is the
- * kind. Bytes that a kind does not name are 0.
+ * kind, byte 2 the record's ceiling. Bytes that a kind does not name are 0.
  *   0  constant  byte 1: its grade
+ *                byte 2: the same grade
  *   1  literal   byte 1: the number of a condition of the shape, from 0
+ *                byte 2: the greatest of its grades
  *                bytes 8 to 15: a grade for each value of that condition;
  *                0 past its last value
- *   2  min       bytes 4 and 5, 6 and 7: the numbers of two earlier records,
+ *   2  min       byte 2: the lesser of byte 2 of its two records
+ *                bytes 4 and 5, 6 and 7: the numbers of two earlier records,
  *                low byte first; the lesser of their grades
- *   3  max       the same; the greater of their grades
- * The last record's grade is the network's.
+ *   3  max       the same; the greater of their grades, and of their byte 2
+ * The last record's grade is the network's. At no cell is a record's grade
+ * above its byte 2, in any network that the calls accept, whoever made it. So
+ * a panel that runs records by itself may skip one that a max gate names,
+ * where its byte 2 is not above the grade of the other.
  *
  * file: at most 1033 records of sixteen bytes. Byte 0 is the kind. Bytes that
  * a kind does not name are 0.
@@ -175,8 +181,10 @@ extern "C" {
 #define GRADES_REFUSED_BUFFER (GRADES_REFUSED + 10u)
 /* No record, more than 4096, a length that is no multiple of 16, or a record
  * that is not as above: an unknown kind, a byte set that must be 0, a grade
- * not below m, a condition that the shape does not have, or the number of a
- * record that does not come before. */
+ * not below m, a condition that the shape does not have, the number of a
+ * record that does not come before, or a byte 2 that is not the ceiling. A
+ * network that was compiled when byte 2 had to be 0 is refused too, unless all
+ * its ceilings are 0: compile its table anew. */
 #define GRADES_REFUSED_NETWORK (GRADES_REFUSED + 11u)
 /* A cell's set of grades that is empty, that lacks a grade between two of its
  * own, or that has a grade not below m. */

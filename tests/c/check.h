@@ -78,16 +78,20 @@ static const uint8_t sets_of_e[7][RECORD] = {
     {4, 0, 1, 0, 0, 0, 0, 0, 1, 1},
 };
 
+/* Each record has 1 as its ceiling. */
 static const uint8_t parity[7][RECORD] = {
-    {1, 0, 0, 0, 0, 0, 0, 0, 1, 0},
-    {1, 1, 0, 0, 0, 0, 0, 0, 0, 1},
-    {2, 0, 0, 0, 0, 0, 1, 0},
-    {1, 0, 0, 0, 0, 0, 0, 0, 0, 1},
-    {1, 1, 0, 0, 0, 0, 0, 0, 1, 0},
-    {2, 0, 0, 0, 3, 0, 4, 0},
-    {3, 0, 0, 0, 2, 0, 5, 0},
+    {1, 0, 1, 0, 0, 0, 0, 0, 1, 0},
+    {1, 1, 1, 0, 0, 0, 0, 0, 0, 1},
+    {2, 0, 1, 0, 0, 0, 1, 0},
+    {1, 0, 1, 0, 0, 0, 0, 0, 0, 1},
+    {1, 1, 1, 0, 0, 0, 0, 0, 1, 0},
+    {2, 0, 1, 0, 3, 0, 4, 0},
+    {3, 0, 1, 0, 2, 0, 5, 0},
 };
 static const size_t parity_bytes = sizeof parity;
+
+/* The byte of a record that has its ceiling. */
+#define CEILING 2
 
 /* The greater and the lesser of the two conditions; the first alone. */
 static const uint8_t either[CELLS] = {0, 1, 1, 1};

@@ -20,10 +20,10 @@ static uint8_t around_grades[GUARD + 2 * NUMBERS + GUARD];
 
 /* By kind, the bytes that must be zero. */
 static const char must_be_zero[4][RECORD + 1] = {
-    "..00000000000000",
-    "..000000........",
-    ".000....00000000",
-    ".000....00000000",
+    "...0000000000000",
+    "...00000........",
+    ".0.0....00000000",
+    ".0.0....00000000",
 };
 
 static void check_work(const char *name, size_t work_bytes, size_t written)
@@ -173,7 +173,7 @@ static void shapes(void)
     expect_shape("past 1024 cells", most_cells, 1024, GRADES_EVALUATE_REFUSED_CELL);
 
     memset(network, 0, RECORD);
-    network[1] = 15;
+    network[1] = network[CEILING] = 15;
     expect("one cell", RECORD, no_conditions, sizeof no_conditions, 1, 0, 15);
     expect("past one cell", RECORD, no_conditions, sizeof no_conditions, 1, 1,
            GRADES_EVALUATE_REFUSED_CELL);
@@ -205,10 +205,11 @@ static void lengths(void)
 
     /* A constant, and then gates that each name the record before. */
     memset(network, 0, sizeof network);
-    network[1] = 1;
+    network[1] = network[CEILING] = 1;
     for (at = 1; at <= GRADES_MAX_RECORDS; at++) {
         uint8_t *record = network + at * RECORD;
         record[0] = 3;
+        record[CEILING] = 1;
         record[4] = record[6] = (uint8_t)((at - 1) & 255);
         record[5] = record[7] = (uint8_t)((at - 1) >> 8);
     }
@@ -216,12 +217,26 @@ static void lengths(void)
            GRADES_MAX_RECORDS, 3, 1);
     expect("4097 records", (size_t)(GRADES_MAX_RECORDS + 1) * RECORD, square, sizeof square,
            GRADES_MAX_RECORDS + 1, 3, GRADES_EVALUATE_REFUSED_NETWORK);
+    network[(GRADES_MAX_RECORDS - 1) * RECORD + CEILING] = 0;
+    expect("4096 records, the last with another ceiling", (size_t)GRADES_MAX_RECORDS * RECORD,
+           square, sizeof square, GRADES_MAX_RECORDS, 3, GRADES_EVALUATE_REFUSED_NETWORK);
+}
+
+/* The parity network's record of each kind; a constant takes the place of its first literal. */
+static const size_t of_kind[4] = {0, 0, 2, 6};
+
+static uint8_t *lend_kind(size_t kind)
+{
+    lend_parity();
+    if (kind == 0) {
+        memset(network, 0, RECORD);
+        network[1] = network[CEILING] = 1;
+    }
+    return network + of_kind[kind] * RECORD;
 }
 
 static void records(void)
 {
-    /* A record of each kind; for kind 0 a constant takes the place of a literal. */
-    static const size_t of_kind[4] = {0, 0, 2, 6};
     size_t kind, byte;
 
     expect_damaged("an unknown kind", 6, 0, 4);
@@ -237,16 +252,12 @@ static void records(void)
     expect_damaged("a literal of a condition that is not there", 0, 1, 2);
     expect_damaged("a literal of condition 8", 0, 1, 8);
     expect_damaged("a literal of condition 255", 0, 1, 255);
-    expect_damaged("a literal with the grade m", 0, 8, 2);
     expect_damaged("a literal with a grade past its values", 0, 10, 1);
     expect_damaged("a literal with a grade in its last byte", 0, 15, 1);
     expect_damaged("a literal turned into a constant", 0, 0, 0);
 
     for (kind = 0; kind < 4; kind++) {
-        uint8_t *record = network + of_kind[kind] * RECORD;
-        lend_parity();
-        if (kind == 0)
-            memset(record, 0, RECORD);
+        uint8_t *record = lend_kind(kind);
         expect("before a byte is set", parity_bytes, square, sizeof square, 7, 0, 0);
         for (byte = 0; byte < RECORD; byte++) {
             char name[64];
@@ -261,12 +272,46 @@ static void records(void)
     }
 
     lend_parity();
+    network[8] = network[CEILING] = 2;
+    expect("a literal with the grade m", parity_bytes, square, sizeof square, 7, 0,
+           GRADES_EVALUATE_REFUSED_NETWORK);
     memset(network, 0, RECORD);
-    network[1] = 1;
+    network[1] = network[CEILING] = 1;
     expect("a constant with the grade m - 1", RECORD, square, sizeof square, 1, 0, 1);
-    network[1] = 2;
+    network[1] = network[CEILING] = 2;
     expect("a constant with the grade m", RECORD, square, sizeof square, 1, 0,
            GRADES_EVALUATE_REFUSED_NETWORK);
+}
+
+/* A record of each kind with every ceiling, of which one is its own. It is the last record, so that
+ * no gate behind it can tell. */
+static void ceilings(void)
+{
+    static const uint32_t grades_of_kind[4] = {1, 1, 0, 0};
+    size_t kind, at;
+    unsigned ceiling;
+    char name[64];
+
+    for (kind = 0; kind < 4; kind++) {
+        const size_t count = of_kind[kind] + 1;
+        uint8_t *record = lend_kind(kind);
+        const uint8_t own = record[CEILING];
+        for (ceiling = 0; ceiling < 256; ceiling++) {
+            record[CEILING] = (uint8_t)ceiling;
+            sprintf(name, "kind %u with ceiling %u", (unsigned)kind, ceiling);
+            expect(name, count * RECORD, square, sizeof square, count, 0,
+                   ceiling == own ? grades_of_kind[kind] : GRADES_EVALUATE_REFUSED_NETWORK);
+        }
+    }
+
+    lend_parity();
+    for (at = 0; at < parity_bytes; at += RECORD)
+        network[at + CEILING] = 0;
+    expect("from before there were ceilings", parity_bytes, square, sizeof square, 7, 0,
+           GRADES_EVALUATE_REFUSED_NETWORK);
+    /* A constant 0 is as it was before. */
+    memset(network, 0, RECORD);
+    expect("a ceiling that is 0", RECORD, square, sizeof square, 1, 0, 0);
 }
 
 static void cells(void)
@@ -352,13 +397,13 @@ static void every_number(void)
 {
     static const uint8_t shape[10] = {4, 8, 8, 8, 2, 0, 0, 0, 0, 16};
     static const uint8_t records[7][RECORD] = {
-        {1, 0, 0, 0, 0, 0, 0, 0, 0, 2, 4, 6, 8, 10, 12, 14},
-        {1, 1, 0, 0, 0, 0, 0, 0, 15, 13, 11, 9, 7, 5, 3, 1},
-        {2, 0, 0, 0, 0, 0, 1, 0},
-        {1, 2, 0, 0, 0, 0, 0, 0, 5, 0, 7, 2, 9, 4, 11, 6},
-        {1, 3, 0, 0, 0, 0, 0, 0, 3, 12},
-        {2, 0, 0, 0, 3, 0, 4, 0},
-        {3, 0, 0, 0, 2, 0, 5, 0},
+        {1, 0, 14, 0, 0, 0, 0, 0, 0, 2, 4, 6, 8, 10, 12, 14},
+        {1, 1, 15, 0, 0, 0, 0, 0, 15, 13, 11, 9, 7, 5, 3, 1},
+        {2, 0, 14, 0, 0, 0, 1, 0},
+        {1, 2, 11, 0, 0, 0, 0, 0, 5, 0, 7, 2, 9, 4, 11, 6},
+        {1, 3, 12, 0, 0, 0, 0, 0, 3, 12},
+        {2, 0, 11, 0, 3, 0, 4, 0},
+        {3, 0, 14, 0, 2, 0, 5, 0},
     };
     static uint16_t numbers[2 * NUMBERS];
     static uint8_t wanted[2 * NUMBERS];
@@ -385,6 +430,7 @@ int main(void)
     works();
     lengths();
     records();
+    ceilings();
     cells();
     order();
     lists();

@@ -343,8 +343,8 @@ static void compiling(void)
 static void compiling_weakly(void)
 {
     static const uint8_t joined[5][GRADES_RECORD_BYTES] = {
-        {1, 0, 0, 0, 0, 0, 0, 0, 0, 2}, {1, 1, 0, 0, 0, 0, 0, 0, 1, 2}, {2, 0, 0, 0, 0, 0, 1, 0},
-        {1, 1, 0, 0, 0, 0, 0, 0, 0, 1}, {3, 0, 0, 0, 2, 0, 3, 0},
+        {1, 0, 2, 0, 0, 0, 0, 0, 0, 2}, {1, 1, 2, 0, 0, 0, 0, 0, 1, 2}, {2, 0, 2, 0, 0, 0, 1, 0},
+        {1, 1, 1, 0, 0, 0, 0, 0, 0, 1}, {3, 0, 2, 0, 2, 0, 3, 0},
     };
     uint8_t split[7][GRADES_RECORD_BYTES];
     const char *name = "a weak join that is kept";
@@ -356,10 +356,12 @@ static void compiling_weakly(void)
                  5);
     check_front(name, network, sizeof network, joined, sizeof joined);
 
-    /* As E's network, but for the literals that select a value: they have 2 for 1. */
+    /* As E's network, but for the literals that select a value: they have 2 for 1. The min gates
+     * still have 1 as their ceiling, from their other records. */
     name = "a weak join that is not kept";
     memcpy(split, parity, sizeof split);
     split[0][8] = split[3][9] = 2;
+    split[0][CEILING] = split[3][CEILING] = 2;
     fill_buffers();
     check_answer(name,
                  grades_compile(three_grades, 10, odd, CELLS, odd, CELLS, work, 128, network,
@@ -441,6 +443,35 @@ static uint32_t check_table(size_t network_bytes, size_t shape_bytes, const uint
                         limit_bytes, work, work_bytes);
 }
 
+/* The first records of a network, at the limits of E. */
+static uint32_t check_first(uint8_t (*records)[RECORD], size_t count)
+{
+    fill_buffers();
+    return grades_check(records[0], count * RECORD, square, 10, odd, CELLS, odd, CELLS, work, 7);
+}
+
+/* E's network with every other ceiling in one record, which is the last, and with none in all. */
+static void other_ceilings(void)
+{
+    uint8_t other[7][RECORD];
+    size_t record;
+    unsigned more;
+
+    memcpy(other, parity, sizeof other);
+    for (record = 0; record < 7; record++) {
+        for (more = 1; more < 256; more++) {
+            other[record][CEILING]++;
+            check_refused("another ceiling", check_first(other, record + 1),
+                          GRADES_REFUSED_NETWORK);
+        }
+        other[record][CEILING]++;
+    }
+    check_answer("the same ceilings", check_first(other, 7), 0);
+    for (record = 0; record < 7; record++)
+        other[record][CEILING] = 0;
+    check_refused("from before there were ceilings", check_first(other, 7), GRADES_REFUSED_NETWORK);
+}
+
 static void checking(void)
 {
     check_answer("within", check_table(parity_bytes, 10, odd, CELLS, 7), 0);
@@ -459,6 +490,7 @@ static void checking(void)
     check_refused("a limit that is no grade", check_table(parity_bytes, 10, not_grades, CELLS, 7),
                   GRADES_REFUSED_LIMITS);
     check_refused("no record", check_table(0, 10, odd, CELLS, 7), GRADES_REFUSED_NETWORK);
+    other_ceilings();
 }
 
 int main(void)

@@ -268,7 +268,7 @@ static void outside(void)
 
     make_shape(eights, GRADES_MAX_GRADES);
     memset(network, 0, RECORD);
-    network[1] = grade;
+    network[1] = network[CEILING] = grade;
     memset(lower, 0, sizeof lower);
     memset(upper, grade, sizeof upper);
     for (cell = 0; cell < MOST_CELLS; cell++) {

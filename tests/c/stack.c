@@ -296,10 +296,11 @@ static void longest(void)
     memset(lower, 0, sizeof lower);
     memset(upper, 1, sizeof upper);
     memset(network, 0, sizeof network);
-    network[1] = 1;
+    network[1] = network[CEILING] = 1;
     for (at = 1; at < GRADES_MAX_RECORDS; at++) {
         uint8_t *record = network + at * RECORD;
         record[0] = 2 + (at & 1);
+        record[CEILING] = 1;
         record[4] = record[6] = (uint8_t)((at - 1) & 255);
         record[5] = record[7] = (uint8_t)((at - 1) >> 8);
     }

@@ -8,6 +8,7 @@
 
 mod editions;
 mod lent;
+mod networks;
 mod program;
 mod random;
 mod rounds;

@@ -1,6 +1,7 @@
 //! Runs the programs, each time as a process of its own, and compares what they print, byte for byte: the listings of
 //! `grades` with the oracle's and with those that the documents print, the files of `to_spreadsheet` and
-//! `from_spreadsheet` with those that the oracle writes.
+//! `from_spreadsheet` with those that the oracle writes. The records that docs/FORMAT.md shows are held to the example's
+//! files and to the oracle's network.
 //!
 //! The environment variable GRADES_PROGRAMS names the folder of the programs, else it is target/bin. This and the
 //! documents are found from the repository's root.
@@ -11,10 +12,11 @@ use crate::tables::{cardinality_lists, damage, some_table};
 use calls::Edition;
 use calls::tables::OwnedTable;
 use oracle::listing::listing;
-use oracle::{Answer, file};
+use oracle::{Answer, file, network, stages};
 use std::collections::BTreeSet;
 use std::fs::{self, File};
 use std::io::{self, Read, Seek, SeekFrom, Write};
+use std::mem;
 use std::path::PathBuf;
 use std::process::{Command, Output, Stdio};
 use std::thread;
@@ -120,24 +122,63 @@ fn table_named(line: &str) -> Option<&str> {
     words.rev().find(|word| word.ends_with(".table"))
 }
 
-/// The listings that a document prints: indented blocks that end with the number of records, each with the table file
-/// that the document named last.
-fn listings(text: &str) -> Vec<(&str, String)> {
+/// The indented blocks of a document, each with the table file that the document named last.
+fn blocks(text: &str) -> Vec<(&str, String)> {
     let mut found = vec![];
     let mut named = "";
     let mut block = String::new();
     for line in text.lines().chain([""]) {
         if let Some(code) = line.strip_prefix("    ") {
             block += &format!("{code}\n");
-        } else {
-            if block.lines().last().is_some_and(|last| last.starts_with("records ")) {
-                found.push((named, block.clone()));
-            }
-            block.clear();
+        } else if !block.is_empty() {
+            found.push((named, mem::take(&mut block)));
         }
         named = table_named(line).unwrap_or(named);
     }
     found
+}
+
+/// The listings that a document prints: the blocks that end with the number of records.
+fn listings(text: &str) -> Vec<(&str, String)> {
+    let ends = |block: &str| block.lines().last().is_some_and(|last| last.starts_with("records "));
+    blocks(text).into_iter().filter(|(_, block)| ends(block)).collect()
+}
+
+/// Records as docs/FORMAT.md shows them, without the words behind each.
+fn hexadecimal(bytes: &[u8]) -> String {
+    let line = |record: &[u8]| record.iter().map(|byte| format!("{byte:02x}")).collect::<Vec<_>>().join(" ") + "\n";
+    bytes.chunks(16).map(line).collect()
+}
+
+/// The bytes of the network that the oracle compiles for a table file.
+fn network_of(bytes: &[u8]) -> Answer<Vec<u8>> {
+    let read = file::read(bytes, usize::MAX, usize::MAX, usize::MAX)?;
+    let lent = stages::Lent::new(&read.shape, &read.lower, &read.upper, usize::MAX);
+    lent.compile(usize::MAX).map(network::bytes)
+}
+
+/// The blocks of docs/FORMAT.md, all of them records: the example's table, its cell 3 in the other edition, its network.
+fn shown_records() -> Outcome<()> {
+    let [document, table, sets] = ["docs/FORMAT.md", "examples/rota.table", "examples/rota.spreadsheet"];
+    let text = during(document, fs::read_to_string(document))?;
+    let bytes = during(table, fs::read(table))?;
+    let other = during(sets, fs::read(sets))?;
+    // Two conditions and the grades come before the cells. Any record would not do: cell 5 has the same set.
+    let cell = other.chunks(16).nth(3 + 3).unwrap_or_default();
+    let network = network_of(&bytes).map_err(|number| format!("{table}: refused {number}"))?;
+    let wanted = [(table, &bytes[..]), ("cell 3 of examples/rota.spreadsheet", cell), ("the network", &network)];
+    let blocks = blocks(&text);
+    if blocks.len() != wanted.len() {
+        return Err(format!("{document}: {} blocks, expected {} of records", blocks.len(), wanted.len()));
+    }
+    for ((_, block), (what, bytes)) in blocks.iter().zip(wanted) {
+        let record = |line: &str| line.split("    ").take(1).chain(["\n"]).collect::<String>();
+        let shown: String = block.lines().map(record).collect();
+        if let Some(difference) = difference(shown.as_bytes(), hexadecimal(bytes).as_bytes()) {
+            return Err(format!("{document}: {what} is shown as {difference}"));
+        }
+    }
+    Ok(())
 }
 
 /// What differs between what was printed and what should have been: where it begins to, and how it goes on from there.
@@ -272,8 +313,10 @@ impl Program {
         self.settle(file, bytes, output, (self.expected.answers)(bytes))
     }
 
-    /// Document 01's own listing, and those of README.md and of examples/README.md, which has one for each example.
+    /// The records of docs/FORMAT.md; document 01's own listing, and those of README.md and of examples/README.md, which
+    /// has one for each example.
     fn documents(&mut self) -> Outcome<()> {
+        shown_records()?;
         let table = OwnedTable::by_rule(&[2, 2], 2, |values| E[values[0] as usize + 2 * values[1] as usize]);
         let bytes = table.file(|| true);
         let output = feed(self.command(), &bytes, 1)?;

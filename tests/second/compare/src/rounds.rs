@@ -1,6 +1,7 @@
 //! What a run compares.
 
 use crate::editions;
+use crate::networks::{some_network, with_ceilings, with_one_ceiling, with_other_ceilings, with_other_contents};
 use crate::random::Random;
 use crate::session::{Block, Join, Outcome, Session, compile_rooms};
 use crate::tables::{all_tables, cardinality_lists, damage, joined_table, some_table, ungrouped_table};
@@ -81,6 +82,13 @@ fn whole_table(session: &mut Session, table: &OwnedTable) -> Outcome<()> {
         session.evaluate(&network, &table.shape, work, cell as u32)?;
     }
     evaluate_lists(session, &network, &table.shape, work, cells)?;
+    // As it was compiled before records had ceilings; and, since there are too many tiny tables, of others alone, with more
+    // that are not its own.
+    session.check(&with_one_ceiling(&network, 0), table, work)?;
+    if cells > 8 {
+        let others = with_other_ceilings(&network, &table.shape, &mut session.random);
+        run_each(session, &others, table, work)?;
+    }
     for (s, t) in some_sets(table.shape[0] as usize, &mut session.random) {
         for gate in GATES {
             both_blocks(session, table, Join { gate, s, t })?;
@@ -252,7 +260,26 @@ fn large_files(session: &mut Session) -> Outcome<()> {
     session.try_file(&[0; 16_528 + 16])
 }
 
-/// Every byte of a network changed, each time evaluated and checked.
+/// A network evaluated at a cell and at lists, and checked, with a work buffer of this length.
+fn run_network(session: &mut Session, network: &[u8], table: &OwnedTable, work: usize) -> Outcome<()> {
+    let cell = session.random.below(table.cells()) as u32;
+    session.evaluate(network, &table.shape, work, cell)?;
+    evaluate_lists(session, network, &table.shape, work, table.cells())?;
+    session.check(network, table, work)
+}
+
+/// The same of many networks: one cell, and one list, which may have a number that no cell has.
+fn run_each(session: &mut Session, networks: &[Vec<u8>], table: &OwnedTable, work: usize) -> Outcome<()> {
+    for network in networks {
+        let [cell, listed] = [0, 1].map(|more| session.random.below(table.cells() + more));
+        session.evaluate(network, &table.shape, work, cell as u32)?;
+        session.evaluate_each(network, &table.shape, &[listed as u16], [1, work])?;
+        session.check(network, table, work)?;
+    }
+    Ok(())
+}
+
+/// Every byte of a network changed, with the ceilings as they were and filled in anew; other ceilings; every front part.
 fn damaged_networks(session: &mut Session) -> Outcome<()> {
     for table in small_tables(&mut session.random) {
         let cells = table.cells();
@@ -262,12 +289,16 @@ fn damaged_networks(session: &mut Session) -> Outcome<()> {
             for value in wrong_values(sound[at], &mut session.random).into_iter().chain([(at / 16) as u8]) {
                 let mut network = sound.clone();
                 network[at] = value;
-                let cell = session.random.below(cells) as u32;
-                session.evaluate(&network, &table.shape, count, cell)?;
-                evaluate_lists(session, &network, &table.shape, count, cells)?;
-                session.check(&network, &table, count)?;
+                run_network(session, &network, &table, count)?;
+                // Else a change that asks for another ceiling would never be seen in a network that is accepted.
+                let filled = with_ceilings(&network, &table.shape);
+                if filled != network && filled != sound {
+                    run_network(session, &filled, &table, count)?;
+                }
             }
         }
+        let others = with_other_ceilings(&sound, &table.shape, &mut session.random);
+        run_each(session, &others, &table, count)?;
         for length in 0..sound.len() {
             session.evaluate(&sound[..length], &table.shape, count, 0)?;
             evaluate_lists(session, &sound[..length], &table.shape, count, cells)?;
@@ -422,7 +453,8 @@ fn lent_sets(session: &mut Session) -> Outcome<()> {
     Ok(())
 }
 
-/// Networks that no compile made: any well-formed records, up to the most and one more.
+/// Networks that no compile made: any well-formed records, up to the most and one more; with other contents, where the
+/// ceilings may happen to be right or are filled in anew, and with other ceilings.
 fn foreign_networks(session: &mut Session) -> Outcome<()> {
     for turn in 0..300 {
         let cards: &[u8] = session.random.pick(&[&[][..], &[5], &[2, 2], &[3, 2, 4], &[8, 8], &[2; 8], &[8, 8, 8, 2]]);
@@ -433,7 +465,7 @@ fn foreign_networks(session: &mut Session) -> Outcome<()> {
             1 => 4097,
             _ => 1 + session.random.below(60),
         };
-        let network = some_network(cards, grades, records, &mut session.random);
+        let network = some_network(&table.shape, records, &mut session.random);
         session.check(&network, &table, records)?;
         session.check(&network, &OwnedTable::by_rule(cards, grades, |_| (0, grades - 1)), records)?;
         for _ in 0..10 {
@@ -441,6 +473,16 @@ fn foreign_networks(session: &mut Session) -> Outcome<()> {
             session.evaluate(&network, &table.shape, records, cell as u32)?;
         }
         evaluate_lists(session, &network, &table.shape, records, table.cells())?;
+        if records > 4096 {
+            continue;
+        }
+        for _ in 0..8 {
+            let other = with_other_contents(&network, &table.shape, &mut session.random);
+            let filled = with_ceilings(&other, &table.shape);
+            run_each(session, &[other, filled], &table, records)?;
+        }
+        let others = with_other_ceilings(&network, &table.shape, &mut session.random);
+        run_each(session, &others, &table, records)?;
     }
     Ok(())
 }
@@ -491,29 +533,4 @@ fn weak_joins(session: &mut Session) -> Outcome<()> {
         }
     }
     Ok(())
-}
-
-fn some_network(cards: &[u8], grades: u8, records: usize, random: &mut Random) -> Vec<u8> {
-    let mut network = vec![];
-    for number in 0..records {
-        let mut record = [0; 16];
-        match random.below(if number == 0 { 2 } else { 6 }) {
-            0 => record[1] = random.byte() % grades,
-            1 if !cards.is_empty() => {
-                let condition = random.below(cards.len());
-                record[..2].copy_from_slice(&[1, condition as u8]);
-                let held = record[8..].iter_mut().take(cards[condition] as usize);
-                held.for_each(|grade| *grade = random.byte() % grades);
-            }
-            1 => record[1] = grades - 1,
-            _ => {
-                record[0] = random.pick(&[2, 3]);
-                for at in [4, 6] {
-                    record[at..at + 2].copy_from_slice(&(random.below(number) as u16).to_le_bytes());
-                }
-            }
-        }
-        network.extend(record);
-    }
-    network
 }

@@ -1,10 +1,10 @@
 //! Makes calls, each beside the oracle: the answer, every byte of every buffer, and the guards around them.
 
 use crate::lent::{Lent, Returned};
+use crate::networks::CEILING;
 use crate::random::Random;
 use calls::tables::OwnedTable;
 use calls::{Calls, Edition, Gate, Limits, NO_CELL, REFUSED, REFUSED_EVALUATION, Sets, Table};
-use oracle::network::Record;
 use oracle::stages::WeakJoins;
 use oracle::{Answer, file, join, network, refusal, stages};
 
@@ -33,6 +33,8 @@ pub struct Session<'a> {
     pub weak_joins: WeakJoins,
     /// In how many of the tables compiled one is kept, and in how many one is built and gives way to the split.
     pub with_weak_joins: [u64; 2],
+    /// The network that was last held to its ceilings, and the shape.
+    held: [Vec<u8>; 2],
 }
 
 /// The bytes that compiling asks for as work and as network, and those that a forecast asks for as depth.
@@ -75,8 +77,15 @@ fn table(lent: &[Lent; 3]) -> Table<'_> {
 
 impl<'a> Session<'a> {
     pub fn new(calls: &'a dyn Calls, seed: u64) -> Session<'a> {
-        let (weak_joins, with_weak_joins) = (WeakJoins::default(), [0; 2]);
-        Session { calls, random: Random::new(seed), cases: 0, seen: [false; REFUSALS + 1], weak_joins, with_weak_joins }
+        Session {
+            calls,
+            random: Random::new(seed),
+            cases: 0,
+            seen: [false; REFUSALS + 1],
+            weak_joins: WeakJoins::default(),
+            with_weak_joins: [0; 2],
+            held: [vec![], vec![]],
+        }
     }
 
     /// The refusals that no call has answered.
@@ -221,8 +230,7 @@ impl<'a> Session<'a> {
         let lent = stages::Lent::new(&given.shape, &given.lower, &given.upper, work);
         let wanted = lent.forecast(depth).map(|(records, depth)| (records as u32, depth.to_le_bytes().to_vec()));
         let foretold = self.write(FORECAST, given, [work, depth], wanted)?;
-        let bytes = |records: &[Record]| records.iter().flat_map(|record| record.to_bytes()).collect();
-        let wanted = lent.compile(network).map(|records| (records.len() as u32, bytes(records)));
+        let wanted = lent.compile(network).map(|records| (records.len() as u32, network::bytes(records)));
         let written = self.write(COMPILE, given, [work, network], wanted)?;
         self.weak_joins = lent.weak_joins();
         let WeakJoins { kept, rejected } = self.weak_joins;
@@ -269,7 +277,8 @@ impl<'a> Session<'a> {
         let network = Lent::holding("network", network, &mut self.random);
         let answer = self.calls.check(network.held(), table(&lent), work.held_mut());
         let [shape, lower, upper] = &lent;
-        self.settle("check", answer, wanted, REFUSED, &[&network, shape, lower, upper, &work]).map(|_| ())
+        let accepted = self.settle("check", answer, wanted, REFUSED, &[&network, shape, lower, upper, &work])?;
+        accepted.map_or(Ok(()), |()| self.hold_to_ceilings(network.held(), shape.held()))
     }
 
     /// Evaluates a network at a cell with a work buffer of this length.
@@ -284,7 +293,8 @@ impl<'a> Session<'a> {
         let shape = Lent::holding("shape", shape, &mut self.random);
         let answer = self.calls.evaluate(network.held(), shape.held(), work.held_mut(), cell);
         let call = format!("evaluate at cell {cell}");
-        self.settle(&call, answer, wanted, REFUSED_EVALUATION, &[&network, &shape, &work]).map(|_| ())
+        let accepted = self.settle(&call, answer, wanted, REFUSED_EVALUATION, &[&network, &shape, &work])?;
+        accepted.map_or(Ok(()), |()| self.hold_to_ceilings(network.held(), shape.held()))
     }
 
     /// Evaluates a network at each cell of a list, with a grades and a work buffer of these lengths; the grades.
@@ -313,6 +323,7 @@ impl<'a> Session<'a> {
             self.settle("evaluate each", answer, wanted, REFUSED, &[&network, &shape, &cells, &grades, &work])?;
         if let Some(each) = &each {
             self.hold_to_single_calls(network.held(), shape.held(), cells.held(), each)?;
+            self.hold_to_ceilings(network.held(), shape.held())?;
         }
         Ok(each)
     }
@@ -328,5 +339,17 @@ impl<'a> Session<'a> {
             }
         }
         Ok(())
+    }
+
+    /// Holds each record of a network that was accepted to its ceiling: at no cell is its grade more. Calls with one network
+    /// come one after the other, and the first of them is enough.
+    fn hold_to_ceilings(&mut self, network: &[u8], shape: &[u8]) -> Outcome<()> {
+        if self.held == [network, shape] {
+            return Ok(());
+        }
+        self.held = [network.to_vec(), shape.to_vec()];
+        let greatest = network::greatest(network, shape).expect("the oracle accepts what was accepted");
+        let above = network.chunks(16).zip(greatest).position(|(record, greatest)| greatest > record[CEILING]);
+        above.map_or(Ok(()), |number| Err(format!("case {}: record {number} exceeds its ceiling", self.cases)))
     }
 }

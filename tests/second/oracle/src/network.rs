@@ -1,4 +1,8 @@
-//! Networks: document 01, section "Networks". A network is read record by record, gate by gate, at each cell.
+//! Networks: document 01, section "Networks", with the ceilings that request 7 has in byte 2 of each record. A network is
+//! read record by record, gate by gate, at each cell.
+//!
+//! Ceilings are never taken from the bytes. A record's is the grade that it would have if every literal could have the
+//! largest of its grades at once, and so comes from the records alone, by what gives them their grades.
 
 use crate::{Answer, Gate, Shape, Values, refusal, stop_if};
 
@@ -10,8 +14,9 @@ pub enum Record {
 }
 
 impl Record {
-    pub fn to_bytes(self) -> [u8; 16] {
+    fn to_bytes(self, ceiling: u8) -> [u8; 16] {
         let mut bytes = [0; 16];
+        bytes[2] = ceiling;
         match self {
             Record::Constant(grade) => bytes[1] = grade,
             Record::Literal(condition, grades) => {
@@ -27,7 +32,8 @@ impl Record {
         bytes
     }
 
-    /// The record that sixteen bytes hold, unless they are faulty as record of this number.
+    /// The record that sixteen bytes hold, by the bytes that its kind names; none if they are faulty in these, as record of
+    /// this number.
     fn from_bytes(bytes: &[u8], number: usize, shape: &Shape) -> Option<Record> {
         let pair = |at: usize| u16::from_le_bytes([bytes[at], bytes[at + 1]]);
         let record = match bytes[0] {
@@ -46,8 +52,7 @@ impl Record {
             }
             Record::Gate(_, left, right) => [left, right].iter().all(|&input| (input as usize) < number),
         };
-        // A byte that the kind does not name is zero exactly when writing the record again gives the same bytes.
-        (sound && record.to_bytes() == bytes).then_some(record)
+        sound.then_some(record)
     }
 }
 
@@ -56,22 +61,55 @@ pub fn records(network: &[u8], shape: &Shape) -> Answer<Vec<Record>> {
     let count = network.len() / 16;
     stop_if(!(1..=4096).contains(&count) || network.len() % 16 != 0, refusal::NETWORK)?;
     let records = network.chunks(16).enumerate().map(|(number, bytes)| Record::from_bytes(bytes, number, shape));
-    records.collect::<Option<_>>().ok_or(refusal::NETWORK)
+    let records: Option<Vec<Record>> = records.collect();
+    // Every byte 2 is a ceiling, and a byte that no kind names zero, exactly when writing the records again gives the same
+    // bytes.
+    records.filter(|records| bytes(records) == network).ok_or(refusal::NETWORK)
 }
 
-/// The grade of the last of some records at a cell. They are numbered from `first`, and name none before it.
-pub fn grade(records: &[Record], first: usize, cell: Values) -> u8 {
+/// The bytes of a network's records. A literal's grades past its values are zeros, which no largest grade comes from.
+pub fn bytes(records: &[Record]) -> Vec<u8> {
+    let ceilings = grades(records, 0, |_, held| held.into_iter().max().expect("eight grades"));
+    records.iter().zip(ceilings).flat_map(|(record, ceiling)| record.to_bytes(ceiling)).collect()
+}
+
+/// The grade of each of some records, where a literal has what is chosen from its grades. They are numbered from `first`,
+/// and name none before it.
+fn grades(records: &[Record], first: usize, chosen: impl Fn(u8, [u8; 8]) -> u8) -> Vec<u8> {
     let mut grades: Vec<u8> = Vec::with_capacity(records.len());
     for record in records {
         let input = |number: u16| grades[number as usize - first];
         let grade = match *record {
             Record::Constant(grade) => grade,
-            Record::Literal(condition, held) => held[cell[condition as usize] as usize],
+            Record::Literal(condition, held) => chosen(condition, held),
             Record::Gate(gate, left, right) => gate.of(input(left), input(right)),
         };
         grades.push(grade);
     }
-    *grades.last().expect("a network has a record")
+    grades
+}
+
+/// The grade of each of some records at a cell.
+fn grades_at(records: &[Record], first: usize, cell: Values) -> Vec<u8> {
+    grades(records, first, |condition, held| held[cell[condition as usize] as usize])
+}
+
+/// The grade of the last of some records at a cell.
+pub fn grade(records: &[Record], first: usize, cell: Values) -> u8 {
+    *grades_at(records, first, cell).last().expect("a network has a record")
+}
+
+/// The greatest grade that each record of a network has at any cell.
+pub fn greatest(network: &[u8], shape: &[u8]) -> Answer<Vec<u8>> {
+    let shape = Shape::from_bytes(shape)?;
+    let records = records(network, &shape)?;
+    let mut greatest = vec![0; records.len()];
+    for cell in shape.cells() {
+        for (so_far, grade) in greatest.iter_mut().zip(grades_at(&records, 0, cell)) {
+            *so_far = grade.max(*so_far);
+        }
+    }
+    Ok(greatest)
 }
 
 /// How deep gates stand under a record: 0 for none, and under a gate one more than under the deeper of its inputs. The

@@ -1,36 +1,45 @@
 //! Evaluating and checking: a scan of all records, then a run over them for each cell.
 
+use super::records::{CEILING, RECORD, gate_ceiling, largest};
 use super::shape::{MOST_CELLS, Shape};
 use super::{Answer, refuse_if};
-use crate::{NO_CELL, Table};
+use crate::{Gate, NO_CELL, Table};
 
-const RECORD: usize = 16;
 const MOST_RECORDS: usize = 4096;
 
 fn input(record: &[u8], at: usize) -> usize {
     record[at] as usize | (record[at + 1] as usize) << 8
 }
 
-fn sound(record: &[u8], number: usize, shape: &Shape) -> bool {
+/// Whether the record of this number is as it must be, given the ceilings that the records before it have in the network.
+fn sound(record: &[u8], number: usize, network: &[u8], shape: &Shape) -> bool {
     let zero = |from: usize, to: usize| record[from..to].iter().all(|&byte| byte == 0);
+    let ceiling = record[CEILING];
     match record[0] {
-        0 => record[1] < shape.grades && zero(2, RECORD),
+        0 => record[1] < shape.grades && ceiling == record[1] && zero(3, RECORD),
         1 => {
             let condition = record[1] as usize;
             if condition >= shape.conditions {
                 return false;
             }
             let past = 8 + shape.places.card(condition);
-            record[8..past].iter().all(|&grade| grade < shape.grades) && zero(past, RECORD) && zero(2, 8)
+            // All grades are below m if the largest is.
+            ceiling < shape.grades && ceiling == largest(&record[8..past]) && zero(past, RECORD) && zero(3, 8)
         }
-        2 | 3 => input(record, 4) < number && input(record, 6) < number && zero(1, 4) && zero(8, RECORD),
+        2 | 3 => {
+            let gate = if record[0] == 2 { Gate::Min } else { Gate::Max };
+            let (left, right) = (input(record, 4), input(record, 6));
+            let spare = record[1] == 0 && record[3] == 0 && zero(8, RECORD);
+            spare && left < number && right < number && ceiling == gate_ceiling(gate, network, left, right)
+        }
         _ => false,
     }
 }
 
 fn judge(network: &[u8], shape: &Shape) -> Answer<()> {
     refuse_if(network.is_empty() || network.len() % RECORD != 0 || network.len() > MOST_RECORDS * RECORD, 11)?;
-    let fault = network.chunks_exact(RECORD).enumerate().any(|(number, record)| !sound(record, number, shape));
+    let mut records = network.chunks_exact(RECORD).enumerate();
+    let fault = records.any(|(number, record)| !sound(record, number, network, shape));
     refuse_if(fault, 11)
 }
 

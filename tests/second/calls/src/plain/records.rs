@@ -5,6 +5,23 @@ use crate::Gate;
 
 pub const RECORD: usize = 16;
 
+/// The byte of a record that has its ceiling: a grade that the record exceeds at no cell.
+pub const CEILING: usize = 2;
+
+/// The ceiling of a gate of two records of a network, from the bytes that they have there.
+pub fn gate_ceiling(gate: Gate, network: &[u8], left: usize, right: usize) -> u8 {
+    let [left, right] = [left, right].map(|input| network[RECORD * input + CEILING]);
+    match gate {
+        Gate::Min => left.min(right),
+        Gate::Max => left.max(right),
+    }
+}
+
+/// The ceiling of a literal: the largest of its grades.
+pub fn largest(grades: &[u8]) -> u8 {
+    grades.iter().fold(0, |so_far, &grade| so_far.max(grade))
+}
+
 /// Takes the records in their order. Each gets a number that stands for it where it is the input of a gate.
 pub trait Records {
     fn constant(&mut self, grade: u8) -> usize;
@@ -25,11 +42,12 @@ impl<'a> Written<'a> {
         Written { network, count: 0 }
     }
 
-    /// Writes a record of this kind, the rest of its bytes by `fill`.
-    fn push(&mut self, kind: u8, fill: impl FnOnce(&mut [u8])) -> usize {
+    /// Writes a record of this kind and with this ceiling, the rest of its bytes by `fill`.
+    fn push(&mut self, kind: u8, ceiling: u8, fill: impl FnOnce(&mut [u8])) -> usize {
         let record = &mut self.network[RECORD * self.count..][..RECORD];
         record.fill(0);
         record[0] = kind;
+        record[CEILING] = ceiling;
         fill(record);
         self.count += 1;
         self.count - 1
@@ -38,18 +56,19 @@ impl<'a> Written<'a> {
 
 impl Records for Written<'_> {
     fn constant(&mut self, grade: u8) -> usize {
-        self.push(0, |record| record[1] = grade)
+        self.push(0, grade, |record| record[1] = grade)
     }
 
     fn literal(&mut self, condition: usize, grades: &[u8]) -> usize {
-        self.push(1, |record| {
+        self.push(1, largest(grades), |record| {
             record[1] = condition as u8;
             record[8..8 + grades.len()].copy_from_slice(grades);
         })
     }
 
     fn gate(&mut self, gate: Gate, left: usize, right: usize) -> usize {
-        self.push(if gate == Gate::Min { 2 } else { 3 }, |record| {
+        let ceiling = gate_ceiling(gate, self.network, left, right);
+        self.push(if gate == Gate::Min { 2 } else { 3 }, ceiling, |record| {
             record[4..6].copy_from_slice(&(left as u16).to_le_bytes());
             record[6..8].copy_from_slice(&(right as u16).to_le_bytes());
         })
