@@ -198,19 +198,25 @@ fn forecast(name: &str, table: OwnedTable) -> Case {
     Case { name: format!("forecast {name}"), growth: None, prepare }
 }
 
-/// Two constants, and then literals and gates, each gate naming the two records before it.
+/// Two constants, and then literals and gates, each gate naming the two records before it; each record with its ceiling in
+/// byte 2.
 fn long_network(shape: &[u8], records: usize) -> Vec<u8> {
     let mut network = vec![0; 16 * records];
+    let [mut one_before, mut two_before] = [0; 2];
     for (number, record) in network.chunks_mut(16).enumerate().skip(2) {
         record[0] = 1 + (number % 3) as u8;
         if record[0] == 1 {
             let condition = number / 3 % shape[0] as usize;
+            let grade = (number % shape[9] as usize) as u8;
             record[1] = condition as u8;
-            record[8..][..shape[1 + condition] as usize].fill((number % shape[9] as usize) as u8);
+            record[2] = grade;
+            record[8..][..shape[1 + condition] as usize].fill(grade);
         } else {
+            record[2] = if record[0] == 2 { one_before.min(two_before) } else { one_before.max(two_before) };
             record[4..6].copy_from_slice(&(number as u16 - 1).to_le_bytes());
             record[6..8].copy_from_slice(&(number as u16 - 2).to_le_bytes());
         }
+        (one_before, two_before) = (record[2], one_before);
     }
     network
 }
