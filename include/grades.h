@@ -72,8 +72,9 @@ extern "C" {
  *   3  max       the same; the greater of their grades, and of their byte 2
  * The last record's grade is the network's. At no cell is a record's grade
  * above its byte 2, in any network that the calls accept, whoever made it. So
- * a panel that runs records by itself may skip one that a max gate names,
- * where its byte 2 is not above the grade of the other.
+ * where the grade of one record of a max gate is not below byte 2 of the
+ * other, it is the gate's grade: a panel that runs records by itself need not
+ * work out the other for this gate. Another gate may still name it.
  *
  * file: at most 1033 records of sixteen bytes. Byte 0 is the kind. Bytes that
  * a kind does not name are 0.

@@ -2,7 +2,8 @@
  * Ceilings, byte 2 of every record of a network. Of networks that are compiled,
  * and of others, each is as the header says; the records up to any of them are
  * a network too, whose grade is above its last record's ceiling at no cell; and
- * with another ceiling, or as it was before there were any, it is refused.
+ * with another ceiling it is refused, and as it was before there were any,
+ * unless all of them are 0.
  */
 #include "check.h"
 

@@ -62,8 +62,8 @@ pub fn records(network: &[u8], shape: &Shape) -> Answer<Vec<Record>> {
     stop_if(!(1..=4096).contains(&count) || network.len() % 16 != 0, refusal::NETWORK)?;
     let records = network.chunks(16).enumerate().map(|(number, bytes)| Record::from_bytes(bytes, number, shape));
     let records: Option<Vec<Record>> = records.collect();
-    // Every byte 2 is a ceiling, and a byte that no kind names zero, exactly when writing the records again gives the same
-    // bytes.
+    // Every byte 2 is a ceiling, and every byte that the record's own kind does not name is zero, exactly when writing the
+    // records again gives the same bytes.
     records.filter(|records| bytes(records) == network).ok_or(refusal::NETWORK)
 }
 
