@@ -1,14 +1,11 @@
-//! With the feature `library`, links the archive that GRADES_LIBRARY names, or the one that the toolchain last built.
+//! Links the archive that GRADES_LIBRARY names, or the one that the toolchain last built.
 
 use std::env;
 use std::path::PathBuf;
 
 fn main() {
     println!("cargo::rerun-if-env-changed=GRADES_LIBRARY");
-    if env::var_os("CARGO_FEATURE_LIBRARY").is_none() {
-        return;
-    }
-    let built = || PathBuf::from(env!("CARGO_MANIFEST_DIR")).join("../../../target/staticlib/libpanel.a");
+    let built = || PathBuf::from(env!("CARGO_MANIFEST_DIR")).join("../target/staticlib/libpanel.a");
     let archive = env::var_os("GRADES_LIBRARY").map_or_else(built, PathBuf::from);
     let folder = archive.parent().expect("an archive stands in a folder");
     let name = archive.file_name().expect("an archive has a name");
