@@ -86,15 +86,42 @@ const SHAPES: [&[u8]; 10] = [
     &[2, 8, 8, 8],
 ];
 
-/// A table drawn by its number: its shape and grades, how many cells of ten may leave any grade, how far apart the
-/// other limits lie, and whether the grades are noise or the gate of two functions of half the conditions.
+/// Noise that a number decides.
+fn noise_of(number: u32) -> impl FnMut() -> usize {
+    noise_from(number.wrapping_mul(2_654_435_761))
+}
+
+/// A table drawn by its number, its shape as well.
 pub fn drawn(number: u32) -> OwnedTable {
-    let mut next = noise_from(number.wrapping_mul(2_654_435_761));
+    let mut next = noise_of(number);
     let cards = SHAPES[next() % SHAPES.len()];
+    drawn_of(cards, next)
+}
+
+/// The table of a room, drawn by its number: 1 to 5 conditions of 2 to 4 values, or, of a large room, 1,024 cells.
+pub fn room(number: u32, large: bool) -> OwnedTable {
+    let mut next = noise_of(number);
+    let cards: Vec<u8> = if large {
+        let shapes: Vec<_> = SHAPES.into_iter().filter(|cards| cells(cards) == 1024).collect();
+        shapes[next() % shapes.len()].to_vec()
+    } else {
+        (0..1 + next() % 5).map(|_| 2 + (next() % 3) as u8).collect()
+    };
+    drawn_of(&cards, next)
+}
+
+fn cells(cards: &[u8]) -> usize {
+    cards.iter().map(|&card| card as usize).product()
+}
+
+/// A table with these cardinalities, of which noise decides the number of grades, how many cells of ten may leave any
+/// grade, how far apart the other limits lie, and whether the grades are noise or the gate of two functions of half the
+/// conditions.
+fn drawn_of(cards: &[u8], mut next: impl FnMut() -> usize) -> OwnedTable {
     let grades = 2 + next() % 15;
     let (free, apart, kind) = (next() % 10, next() % grades, next() % 3);
     let half = cards.len() / 2;
-    let cells: usize = cards.iter().map(|&card| card as usize).product();
+    let cells = cells(cards);
     let blocks: Vec<usize> = (0..2 * cells).map(|_| next() % grades).collect();
     OwnedTable::by_rule(cards, grades as u8, |values| {
         let place = |of: &[u8]| of.iter().fold(0, |cell, &value| 8 * cell + value as usize) % cells;

@@ -1,6 +1,8 @@
 //! Measures the calls of the proved library beside the same calls in plain safe Rust.
 //!
 //!     bench FOLDER                    writes BENCHMARKS.md and compile-cost.svg there, and prints the table
+//!     bench FOLDER KEEPER ROOMS       the same, with the section on rooms
+//!     bench rooms KEEPER ROOMS        prints what the program KEEPER takes for a folder of rooms, ROOMS, which it makes
 //!     bench once NAME CASE TIMES      makes one call so many times; for counting its instructions
 //!     bench against PROGRAM           prints each call's instructions with the library in another build, and in this one
 //!     bench search SECONDS            draws tables for so long, and prints those that take longest to compile
@@ -11,6 +13,7 @@
 mod cases;
 mod plot;
 mod report;
+mod rooms;
 
 use calls::{Calls, plain::Plain};
 use cases::{Case, all, compile, drawn};
@@ -168,10 +171,32 @@ fn search(seconds: &str) -> Option<()> {
     Some(())
 }
 
-fn write(folder: &Path, report: &Report) -> std::io::Result<()> {
-    std::fs::write(folder.join("BENCHMARKS.md"), report.document())?;
-    std::fs::write(folder.join("compile-cost.svg"), plot::draw(&report.lines()))
+/// Measures the program keeper on a folder of rooms that it makes, prints the document's section on it, and gives it.
+fn rooms(keeper: &str, folder: &str) -> Result<String, String> {
+    let implementations = implementations();
+    let library = implementations.iter().find(|(name, _)| *name == "library");
+    let (_, calls) = library.ok_or("keeper is measured beside the library, which this build has not")?;
+    let section = rooms::measure(&**calls, Path::new(keeper), Path::new(folder));
+    let section = section.map_err(|error| format!("{keeper}, {folder}: {error}"))?;
+    println!("{}", section.trim_start());
+    Ok(section)
 }
+
+/// Measures every case, and writes the document, with this section at its end, and the plot.
+fn write(folder: &str, section: &str) -> Result<(), String> {
+    let report = measure();
+    let write = |name, text| std::fs::write(Path::new(folder).join(name), text);
+    write("BENCHMARKS.md", report.document() + section)
+        .and_then(|()| write("compile-cost.svg", plot::draw(&report.lines())))
+        .map_err(|error| format!("{folder}: {error}"))
+}
+
+const USAGE: &str = "\
+bench FOLDER [KEEPER ROOMS]
+bench rooms KEEPER ROOMS
+bench once NAME CASE TIMES
+bench against PROGRAM
+bench search SECONDS";
 
 fn main() -> ExitCode {
     let words: Vec<String> = std::env::args().skip(1).collect();
@@ -183,8 +208,10 @@ fn main() -> ExitCode {
             Ok(())
         }
         ["search", seconds] => search(seconds).ok_or("bench search SECONDS".into()),
-        [folder] => write(Path::new(folder), &measure()).map_err(|error| format!("{folder}: {error}")),
-        _ => Err("bench FOLDER\nbench once NAME CASE TIMES\nbench against PROGRAM\nbench search SECONDS".into()),
+        ["rooms", keeper, folder] => rooms(keeper, folder).map(drop),
+        [folder, keeper, of_rooms] => rooms(keeper, of_rooms).and_then(|section| write(folder, &section)),
+        [folder] => write(folder, ""),
+        _ => Err(USAGE.into()),
     };
     match done {
         Ok(()) => ExitCode::SUCCESS,
