@@ -50,7 +50,8 @@ fn run(document: &str, folder: &Folder) -> usize {
         }
         let both = format!("{{ {command}; }} 2>&1");
         let run = Run::of(Command::new("bash").args(["-c", &both]).env("PATH", &path).current_dir(&folder.0));
-        assert_eq!(run.out, *printed, "{command}");
+        let status = i32::from(printed.contains(": outside at "));
+        assert_eq!((run.status, run.out.as_str()), (Some(status), printed.as_str()), "{command}");
     }
     steps.len()
 }

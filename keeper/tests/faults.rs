@@ -534,7 +534,7 @@ fn what_is_no_file_stays() {
     for command in
         nodes.map(|name| format!("compile -q alarm.table -o {name}")).chain(["update rota.table".to_string()])
     {
-        let run = folder.shell(&format!("timeout 2 $K {command}"));
+        let run = folder.shell(&format!("timeout 20 $K {command}"));
         assert_eq!((run.status, run.err.lines().count()), (Some(2), 1), "{command}: {run:?}");
         assert_eq!((folder.names(), kinds()), before, "{command}");
     }
