@@ -172,22 +172,17 @@ fn what_has_no_room_is_said_beside_what_has() {
 #[test]
 fn names_of_files_may_be_anything() {
     let folder = Folder::new("anything");
-    for name in ["two\nlines", "a b.c", "\u{202e}turned", "-q"] {
+    let long = "x".repeat(240);
+    for name in ["two\nlines", "a b.c", "\u{202e}turned", "-q", &long] {
         folder.write(&format!("{name}.table"), &example("rota.table"));
     }
     let odd = std::ffi::OsString::from_vec(b"\xff.table".to_vec());
     std::fs::write(folder.0.join(odd), example("rota.table")).unwrap();
-    folder.keeper(&["update", "."]).is(
-        0,
-        "./-q.network: 3 records written; before: no network\n\
-         ./a b.c.network: 3 records written; before: no network\n\
-         ./two\\nlines.network: 3 records written; before: no network\n\
-         ./\\u{202e}turned.network: 3 records written; before: no network\n\
-         ./\u{fffd}.network: 3 records written; before: no network\n\
-         5 rooms: 5 written\n",
-        "",
-    );
-    folder.keeper(&["check", "."]).is(0, "5 rooms: 5 within\n", "");
+    let written: String = ["-q", "a b.c", "two\\nlines", &long, "\\u{202e}turned", "\u{fffd}"]
+        .map(|name| format!("./{name}.network: 3 records written; before: no network\n"))
+        .concat();
+    folder.keeper(&["update", "."]).is(0, &format!("{written}6 rooms: 6 written\n"), "");
+    folder.keeper(&["check", "."]).is(0, "6 rooms: 6 within\n", "");
 }
 
 #[test]

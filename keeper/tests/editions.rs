@@ -97,7 +97,7 @@ fn where_files_go() {
     folder.keeper(&["-q", "import", "rota.txt"]).is(1, "rota.txt: a text, and not a table; see keeper make\n", "");
     assert_eq!(folder.shell("mkdir pipes && mkfifo pipes/x.spreadsheet").status, Some(0));
     let pipe = "pipes/x.spreadsheet: cannot be read: it is not a regular file\n";
-    folder.keeper(&["-q", "import", "pipes"]).is(2, "", pipe);
+    folder.shell("timeout 20 $K -q import pipes").is(2, "", pipe);
     folder.keeper(&["import", "empty"]).is(2, "", "empty: no files there that end in .spreadsheet\n");
     folder.keeper(&["export", "empty", "rota.table"]).is(
         2,

@@ -468,6 +468,21 @@ fn change_meanwhile(case: &Case, target: &str, call: &str) {
     }
 }
 
+/// Of two runs at once the second finds its work done.
+#[test]
+fn another_run_that_does_the_same() {
+    for case in COMMANDS.map(|command| Case::new("same", command)) {
+        for target in case.targets() {
+            let folder = case.folder();
+            let fault = format!("fsync 1 run 0 .{target}.keeper-*");
+            let same = format!("cp -p .{target}.keeper-* {target}");
+            let (run, struck) = with_faults(&folder, &case.arguments(), &[&fault], &same);
+            assert_eq!((struck.len(), run.status), (1, Some(0)), "{}: {run:?}", case.command);
+            assert_eq!((files(&folder), drafts(&folder)), (case.behind.clone(), Vec::new()), "{}", case.command);
+        }
+    }
+}
+
 #[test]
 fn a_mode_that_cannot_be_asked_for() {
     for case in COMMANDS.map(|command| Case::new("mode", command)) {
