@@ -277,8 +277,10 @@ fn evaluate(options: &Options, table_path: &Path, network_path: &Path, words: &[
     // Values are given by name, so a text at fault cannot be passed over.
     let names = names(options, table_path, table.shape(), |text, why| about(FOUND, text, why))?;
     let cell = cell(table.shape(), &names, words).or_else(|what| about(FAILED, table_path, what))?;
-    let refused =
-        |Refusal(number)| Stop { lines: vec![said(network_path, &format!("refused ({number})"))], status: FOUND };
+    let refused = |Refusal(number)| Stop {
+        lines: vec![said(network_path, &format!("refused (refusal {number})"))],
+        status: FOUND,
+    };
     let grade = network.evaluate(cell).map_err(refused)?;
     print(format!("{} (allowed: {})\n", names.grades[grade], names.limits(&table, cell)).as_bytes())?;
     match table.only_at(cell).check(network.bytes()).map_err(refused)? {

@@ -31,7 +31,7 @@ impl fmt::Display for Fault {
             if first == last {
                 write!(f, "record {record}, byte {first} ({} of the file): ", before + first)?;
             } else {
-                write!(f, "record {record}, bytes {first} to {last} ",)?;
+                write!(f, "record {record}, bytes {first} to {last} ")?;
                 write!(f, "({} to {} of the file): ", before + first, before + last)?;
             }
         }

@@ -100,7 +100,7 @@ struct Tally {
     sources: usize,
     status: u8,
     folders: BTreeSet<PathBuf>,
-    /// Why nothing more is printed. The work goes on all the same: what is half done would be neither old nor new.
+    /// Why nothing more is printed. The work goes on: which rooms are written must not depend on who reads.
     unprinted: Option<Stop>,
 }
 

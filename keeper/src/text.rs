@@ -192,12 +192,13 @@ impl Header {
         for (at, (line, words)) in text.iter().enumerate() {
             header.lines.push(*line);
             match words[0] {
-                // The library refuses the ninth condition: what follows need not be read.
-                "condition" if at == MAX_CONDITIONS => {
+                "condition" => {
                     header.condition(*line, &words[1..])?;
-                    return Ok((header, &[]));
+                    // The library refuses the ninth: what follows need not be read.
+                    if at == MAX_CONDITIONS {
+                        return Ok((header, &[]));
+                    }
                 }
-                "condition" => header.condition(*line, &words[1..])?,
                 "grades" => {
                     header.grades = numbered(*line, "grade", &words[1..])?;
                     header.names.grades = owned(&words[1..]);
@@ -208,9 +209,7 @@ impl Header {
                         None => Ok((header, rest)),
                     };
                 }
-                word => {
-                    return fault(*line, format!("{word:?} where condition or grades is due"));
-                }
+                word => return fault(*line, format!("{word:?} where condition or grades is due")),
             }
         }
         fault(0, "there is no line of grades")

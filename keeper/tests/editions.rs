@@ -91,9 +91,8 @@ fn where_files_go() {
     std::fs::create_dir(folder.path("empty")).unwrap();
     folder.write("room", &example("rota.spreadsheet"));
     folder.write("room.spreadsheet", &example("rota.spreadsheet"));
-    let both = "room.table: room and empty/../room.spreadsheet would both be written here\n";
-    let run = folder.keeper(&["import", "room", "empty/../room.spreadsheet"]);
-    assert_eq!((run.status, run.err.contains("would both be written here")), (Some(2), true), "{both}");
+    let both = "empty/../room.table: room and empty/../room.spreadsheet would both be written here\n";
+    folder.keeper(&["import", "room", "empty/../room.spreadsheet"]).is(2, "", both);
     folder.keeper(&["-q", "import", "rota.txt"]).is(1, "rota.txt: a text, and not a table; see keeper make\n", "");
     assert_eq!(folder.shell("mkdir pipes && mkfifo pipes/x.spreadsheet").status, Some(0));
     let pipe = "pipes/x.spreadsheet: cannot be read: it is not a regular file\n";

@@ -133,6 +133,7 @@ WRAP(int, open64, (const char *path, int flags, mode_t mode), (path, flags, mode
 WRAP(ssize_t, read, (int file, void *bytes, size_t n), (file, bytes, n), opened(file), -1)
 WRAP(ssize_t, write, (int file, const void *bytes, size_t n), (file, bytes, taken(fault, n)), opened(file), -1)
 WRAP(int, fsync, (int file), (file), opened(file), -1)
+WRAP(int, fchown, (int file, uid_t owner, gid_t group), (file, owner, group), opened(file), -1)
 WRAP(int, fchmod, (int file, mode_t mode), (file, mode), opened(file), -1)
 WRAP(int, rename, (const char *from, const char *to), (from, to), from, -1)
 WRAP(int, unlink, (const char *path), (path), path, -1)

@@ -210,7 +210,7 @@ const COMMANDS: [&str; 9] = [
 ];
 
 /// Calls that change something. `unlink` is called where one of them has failed.
-const WRITING: [&str; 5] = ["open64", "write", "fsync", "fchmod", "rename"];
+const WRITING: [&str; 6] = ["open64", "write", "fsync", "fchown", "fchmod", "rename"];
 const READING: [&str; 4] = ["read", "realpath", "opendir", "readdir64"];
 
 const BROKEN: (&str, &str) = ("fail 5", "input/output error");
@@ -285,6 +285,8 @@ impl Faulty<'_> {
         match struck.call.as_str() {
             // Whether a file is given twice.
             "realpath" => true,
+            // The owner; the group is tried alone then.
+            "fchown" => true,
             // A text's names, for what is said of a table that is replaced.
             "open64" | "read" => struck.name.ends_with(".txt") && ["import .", "export ."].contains(&case.command),
             _ => false,
@@ -340,7 +342,9 @@ fn all_were_reached(case: &Case, struck: &[Struck]) {
     let mut expected = BTreeSet::from([("open64", "."), ("fsync", ".")]);
     for target in case.targets() {
         expected.extend(["open64", "write", "fsync", "rename"].map(|call| (call, target)));
-        expected.extend(case.before.contains_key(target).then_some(("fchmod", target)));
+        if case.before.contains_key(target) {
+            expected.extend(["fchown", "fchmod"].map(|call| (call, target)));
+        }
     }
     if case.output().is_none() {
         expected.extend([("opendir", "."), ("readdir64", "."), ("realpath", ".")]);
@@ -466,6 +470,18 @@ fn change_meanwhile(case: &Case, target: &str, call: &str) {
         assert_eq!((refused.status, refused.err), (Some(2), directory), "{what}");
         assert!(folder.path(target).is_dir(), "{what}");
     }
+}
+
+/// A file whose group cannot be kept stays: another group could read or write the new one.
+#[test]
+fn a_group_that_cannot_be_kept() {
+    let case = Case::new("group", "update .");
+    let folder = case.folder();
+    let fault = "fchown 1 fail 1 .rota.network.keeper-*";
+    let (run, struck) = with_faults(&folder, &case.arguments(), &[fault, fault], "");
+    assert_eq!((struck.len(), run.status), (2, Some(2)), "{run:?}");
+    assert_eq!(run.err, "./rota.network: cannot be written: operation not permitted\n");
+    assert_eq!((files(&folder).get("rota.network"), drafts(&folder)), (case.before.get("rota.network"), Vec::new()));
 }
 
 /// Of two runs at once the second finds its work done.
