@@ -1,4 +1,4 @@
--- Demand 3, of every table that 01 accepts.
+-- Demand 3, of every table that 01 accepts and for all settings.
 use Prim.Native.Nat.{ℕ, _-_, _*_, _≤_, max}
 use mathlib.Core.Path.{_≡_, sym, subst}
 use mathlib.Core.List.{List}
@@ -8,6 +8,7 @@ use lib.ListN.{length}
 use Rattle.rules.specs.Cell.{cells}
 use Rattle.rules.specs.Limits.{Limits}
 use Rattle.rules.specs.Network.{networkBytes, networkRecords, networkSound}
+use Rattle.rules.specs.declared.Settings.{Settings}
 use Rattle.rules.specs.Stage.{compiled}
 use Rattle.rules.specs.Demands.{Table, compiledRecords, Compiled}
 use Rattle.laws.proofs.RunLaws.{tree-run}
@@ -18,34 +19,34 @@ use Rattle.laws.proofs.StageLaws.{compiled-ok}
 use Rattle.laws.proofs.SizeLaws.{compiled-size}
 use Rattle.laws.proofs.FuelLaws.{every-stage}
 
-module _ (ks : List ℕ) (m : ℕ) (l : Limits) (t : Table ks m l) where
-  most : length (compiledRecords ks m l) ≤ max 1 (3 * cells ks - 5)
-  most = subst (λ (n : ℕ). n ≤ max 1 (3 * cells ks - 5)) (sym (length-records (compiled ks m l) 0)) (compiled-size ks m l (t .positive))
+module _ (how : Settings) (ks : List ℕ) (m : ℕ) (l : Limits) (t : Table ks m l) where
+  most : length (compiledRecords how ks m l) ≤ max 1 (3 * cells ks - 5)
+  most = subst (λ (n : ℕ). n ≤ max 1 (3 * cells ks - 5)) (sym (length-records (compiled how ks m l) 0)) (compiled-size how ks m l (t .positive))
 
-  some : 1 ≤ length (compiledRecords ks m l)
-  some = subst (λ (n : ℕ). 1 ≤ n) (sym (length-records (compiled ks m l) 0)) (size-pos (compiled ks m l))
+  some : 1 ≤ length (compiledRecords how ks m l)
+  some = subst (λ (n : ℕ). 1 ≤ n) (sym (length-records (compiled how ks m l) 0)) (size-pos (compiled how ks m l))
 
-  ok : RecordsOk ks m 0 (compiledRecords ks m l)
-  ok = made-records ks m (compiled ks m l) 0 (compiled-ok ks m l t .made)
+  ok : RecordsOk ks m 0 (compiledRecords how ks m l)
+  ok = made-records ks m (compiled how ks m l) 0 (compiled-ok how ks m l t .made)
 
-  reads : networkRecords ks (networkBytes (compiledRecords ks m l)) ≡ compiledRecords ks m l
-  reads = networkRecords-bytes ks (t .few-values) m (compiledRecords ks m l) ok
+  reads : networkRecords ks (networkBytes (compiledRecords how ks m l)) ≡ compiledRecords how ks m l
+  reads = networkRecords-bytes ks (t .few-values) m (compiledRecords how ks m l) ok
 
-  sound : T (networkSound ks m (networkBytes (compiledRecords ks m l)))
-  sound = networkSound-bytes ks (t .few-values) m (compiledRecords ks m l) ok some (omega (arith, most, t .few-cells))
+  sound : T (networkSound ks m (networkBytes (compiledRecords how ks m l)))
+  sound = networkSound-bytes ks (t .few-values) m (compiledRecords how ks m l) ok some (omega (arith, most, t .few-cells))
 
-  pub compiled-all : Compiled ks m l
+  pub compiled-all : Compiled how ks m l
   compiled-all =
       record {
-        within = λ c hc. rw (reads, tree-run (compiled ks m l) ks c) (compiled-ok ks m l t .within c hc);
+        within = λ c hc. rw (reads, tree-run (compiled how ks m l) ks c) (compiled-ok how ks m l t .within c hc);
         reads = reads;
         sound = sound;
-        capped = sound-capped ks m (networkBytes (compiledRecords ks m l)) sound;
+        capped = sound-capped ks m (networkBytes (compiledRecords how ks m l)) sound;
         one = λ e. omega (arith, most, some);
         most = λ h. omega (arith, most);
-        stages = every-stage ks m l t;
+        stages = every-stage how ks m l t;
       }
 
 -- no table has more records than the largest
-pub few-compiled : {ks : List ℕ} {m : ℕ} {l : Limits} → Table ks m l → length (compiledRecords ks m l) ≤ 3067
-few-compiled {ks} {m} {l} t = omega (arith, most ks m l t, t .few-cells)
+pub few-compiled : (how : Settings) {ks : List ℕ} {m : ℕ} {l : Limits} → Table ks m l → length (compiledRecords how ks m l) ≤ 3067
+few-compiled how {ks} {m} {l} t = omega (arith, most how ks m l t, t .few-cells)

@@ -7,6 +7,7 @@ use native.Mathlib.Omega.{arith}
 use lib.Dec.{T, leb, le→leb}
 use lib.ListN.{length, getD, length-append}
 use Rattle.rules.specs.declared.Gate.{Gate}
+use Rattle.rules.specs.declared.Settings.{Settings}
 use Rattle.rules.specs.declared.Refusal.the-variants.{ShapeRange, GradeLimits, ShortBuffer}
 use Rattle.rules.specs.Cell.{cells}
 use Rattle.rules.specs.Shape.{places, shapeSound}
@@ -84,8 +85,8 @@ depth-size (fixed q) = omega arith
 depth-size (lookup i gs) = omega arith
 depth-size (gated op a b) = omega (arith, depth-size a, depth-size b)
 
-pub foretold : (n : ℕ) (cards : List ℕ) (m lower upper work : ℕ) (l : Limits) → Foretold n cards m lower upper work l
-foretold n cards m lower upper work l network h =
+pub foretold : (how : Settings) (n : ℕ) (cards : List ℕ) (m lower upper work : ℕ) (l : Limits) → Foretold how n cards m lower upper work l
+foretold how n cards m lower upper work l network h =
     go (shapeSound n cards m) (tableRoom c lower upper work) (leb (16 * mostRecords c) network) (limitsSound ks m l) (λ t. le→leb _ _ (h t))
   where
     ks : List ℕ
@@ -95,7 +96,7 @@ foretold n cards m lower upper work l network h =
     c = cells ks
 
     rs : List Record
-    rs = compiledRecords ks m l
+    rs = compiledRecords how ks m l
 
     go : (a b d e : Bool) → (T a → T d)
         → unless a ShapeRange (unless b ShortBuffer (unless e GradeLimits (accepted (forecastOf rs))))

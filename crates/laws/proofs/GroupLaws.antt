@@ -15,6 +15,7 @@ use Rattle.rules.specs.Join.{joinExists, exchangeFor}
 use Rattle.rules.specs.Stage.{Stage, Grouping, none, sets, pairWith, firstPair, addCondition, grow, grouping, count, Choice, split, joining, keepsMax, choose, groups, chosen}
 use Rattle.rules.specs.Demands.{Subset, Larger, Sets, Admits, Exact}
 use Rattle.rules.specs.declared.Gate.{Gate}
+use Rattle.rules.specs.declared.Settings.{Settings}
 use Rattle.rules.specs.declared.Gate.the-variants.{Min, Max}
 use Rattle.laws.proofs.TestLaws.{and-l, and-r, and-i, by-order, cond-ok}
 use Rattle.laws.proofs.JoinLaws.{exists-at, exists-of, exists-part}
@@ -213,23 +214,23 @@ abbrev pub ChoiceOf : (Gate → ℕ → ℕ → Type 0) → Choice → Type 0
 ChoiceOf P split = Unit {0}
 ChoiceOf P (joining op s t) = P op s t
 
-choose-of : (P : Gate → ℕ → ℕ → Type 0) (g h : Grouping) → Of Unit (P Max) g → Of Unit (P Min) h → ChoiceOf P (choose g h)
-choose-of P none none p q = tt
-choose-of P none (sets s t) p q = q
-choose-of P (sets s t) none p q = p
-choose-of P (sets s t) (sets s′ t′) p q = cond-ok (ChoiceOf P) (keepsMax s t s′ t′) (joining Max s t) (joining Min s′ t′) (λ h. p) (λ f. q)
+choose-of : (tie : Gate) (P : Gate → ℕ → ℕ → Type 0) (g h : Grouping) → Of Unit (P Max) g → Of Unit (P Min) h → ChoiceOf P (choose tie g h)
+choose-of tie P none none p q = tt
+choose-of tie P none (sets s t) p q = q
+choose-of tie P (sets s t) none p q = p
+choose-of tie P (sets s t) (sets s′ t′) p q = cond-ok (ChoiceOf P) (keepsMax tie s t s′ t′) (joining Max s t) (joining Min s′ t′) (λ h. p) (λ f. q)
 
 abbrev Joins : Choice → Type 0
 Joins split = ⊥
 Joins (joining op s t) = Unit {0}
 
-choose-found : (g h : Grouping) → Found g ⊎ Found h → Joins (choose g h)
-choose-found none none f = ⊎-elim (λ x. x) (λ x. x) f
-choose-found none (sets s t) f = tt
-choose-found (sets s t) none f = tt
-choose-found (sets s t) (sets s′ t′) f = cond-ok Joins (keepsMax s t s′ t′) (joining Max s t) (joining Min s′ t′) (λ h. tt) (λ f. tt)
+choose-found : (tie : Gate) (g h : Grouping) → Found g ⊎ Found h → Joins (choose tie g h)
+choose-found tie none none f = ⊎-elim (λ x. x) (λ x. x) f
+choose-found tie none (sets s t) f = tt
+choose-found tie (sets s t) none f = tt
+choose-found tie (sets s t) (sets s′ t′) f = cond-ok Joins (keepsMax tie s t s′ t′) (joining Max s t) (joining Min s′ t′) (λ h. tt) (λ f. tt)
 
-module _ (m : ℕ) (y : Stage) where
+module _ (how : Settings) (m : ℕ) (y : Stage) where
   -- what is chosen is admitted, and full
   record Best (op : Gate) (s t : ℕ) : Type 0 where
     pub ok : Admits m y op s t
@@ -252,11 +253,11 @@ module _ (m : ℕ) (y : Stage) where
       go none o f = tt
       go (sets s t) o f = record { ok = record { sets = o .0; joins = o .1 }; full = λ i h. f i (present-lt (y .ks) i h) h }
 
-  best : ChoiceOf Best (chosen m y)
-  best = choose-of Best (groups m y Max) (groups m y Min) (found-best Max) (found-best Min)
+  best : ChoiceOf Best (chosen how m y)
+  best = choose-of (how .tie) Best (groups m y Max) (groups m y Min) (found-best Max) (found-best Min)
 
-  pub chosen-ok : ChoiceOf (Admits m y) (chosen m y)
-  chosen-ok = go (chosen m y) best
+  pub chosen-ok : ChoiceOf (Admits m y) (chosen how m y)
+  chosen-ok = go (chosen how m y) best
     where
       go : (ch : Choice) → ChoiceOf Best ch → ChoiceOf (Admits m y) ch
       go split b = tt
@@ -297,14 +298,14 @@ module _ (m : ℕ) (y : Stage) where
       difference le =
           ⊎-elim (λ e. absurd (a .sets .disjoint (q .0) (subst (λ (x : ℕ). T (has s x)) e (p .1)) (q .1))) (λ l. l) (eq-or-lt-of-le le)
 
-  chosen-joins : (op : Gate) (s t : ℕ) → Admits m y op s t → Joins (chosen m y)
-  chosen-joins Max s t a = choose-found (groups m y Max) (groups m y Min) (inl (found Max s t a))
-  chosen-joins Min s t a = choose-found (groups m y Max) (groups m y Min) (inr (found Min s t a))
+  chosen-joins : (op : Gate) (s t : ℕ) → Admits m y op s t → Joins (chosen how m y)
+  chosen-joins Max s t a = choose-found (how .tie) (groups m y Max) (groups m y Min) (inl (found Max s t a))
+  chosen-joins Min s t a = choose-found (how .tie) (groups m y Max) (groups m y Min) (inr (found Min s t a))
 
-  pub exact : Exact m y
+  pub exact : Exact how m y
   exact =
       record {
-        splits = ((λ e op s t a. subst Joins e (chosen-joins op s t a)), (λ n. go (chosen m y) best n));
+        splits = ((λ e op s t a. subst Joins e (chosen-joins op s t a)), (λ n. go (chosen how m y) best n));
         admitted = λ op s t e. subst (ChoiceOf (Admits m y)) e chosen-ok;
         largest = λ op s t e s′ t′ p q big a. larger op s t (subst (ChoiceOf Best) e best) s′ t′ p q big a;
       }

@@ -17,6 +17,7 @@ use Rattle.rules.specs.Network.{combine}
 use Rattle.rules.specs.Stage.{Stage, outside, merged, fits, dropOne, drops, left, firstStage, mayLeft, wholeTable}
 use Rattle.rules.specs.Demands.{Inside, Pair, Sets, Admits, Table, StageOf, itself, first-block, second-block, cofactor, weak-first, weak-second}
 use Rattle.rules.specs.declared.Gate.{Gate}
+use Rattle.rules.specs.declared.Settings.{Settings}
 use Rattle.laws.proofs.TestLaws.{and-l, and-i, by-test, cond-ok}
 use Rattle.laws.proofs.TableLaws.{all-at, all-of}
 use Rattle.laws.proofs.OverLaws.{max-bound, min-bound, over-self, over-least, over-blind}
@@ -228,19 +229,19 @@ module _ (m : ℕ) (y : Stage) (r : Ready m y) (final : (j : ℕ) → T (present
       (numbersFrom 0 (length (A .ks)))
 
 -- so step 1 never changes whether a stage of a table may take a weak join
-module _ (ks : List ℕ) (m : ℕ) (l : Limits) (w : Table ks m l) where
-  kept : {may : Bool} {x : Stage} → StageOf m (wholeTable ks l) may x → may ≡ false → left x ≡ x
+module _ (how : Settings) (ks : List ℕ) (m : ℕ) (l : Limits) (w : Table ks m l) where
+  kept : {may : Bool} {x : Stage} → StageOf how m (wholeTable ks l) may x → may ≡ false → left x ≡ x
   kept itself e = absurd (subst T e tt)
   kept (first-block op s t o h c) e = absurd (subst T e tt)
   kept (second-block op s t o h c) e = absurd (subst T e tt)
   kept (cofactor k o h c hk) e = absurd (subst T e tt)
   kept (weak-first {may = may} {x = x} op i o h c t) e =
-      let r = stages-ready ks m l w o in
-      weak-keeps m (left x) (left-ready m x r) (left-final x (r .pos)) (exact m (left x) .splits .0 c) op i
-      (subst (WeakOf (λ op i. T (mayLeft may x) × T (present (left x .ks) i))) t (tried-may m (mayLeft may x) (left x)) .1)
+      let r = stages-ready how ks m l w o in
+      weak-keeps m (left x) (left-ready m x r) (left-final x (r .pos)) (exact how m (left x) .splits .0 c) op i
+      (subst (WeakOf (λ op i. T (mayLeft may x) × T (present (left x .ks) i))) t (tried-may how m (mayLeft may x) (left x)) .1)
   kept (weak-second op i o h c t) e = absurd (subst T e tt)
 
-  pub may-same : (may : Bool) (x : Stage) → StageOf m (wholeTable ks l) may x → mayLeft may x ≡ may
+  pub may-same : (may : Bool) (x : Stage) → StageOf how m (wholeTable ks l) may x → mayLeft may x ≡ may
   may-same true x o = refl
   may-same false x o = ap (λ (y : Stage). ltb (width (y .ks)) (width (x .ks))) (kept o refl) ∙ same (width (x .ks))
     where

@@ -30,6 +30,7 @@ pub mod PadStageLaws
 pub mod RunLaws
 pub mod SetLaws
 pub mod SizeLaws
+pub mod SplitLaws
 pub mod StageLaws
 pub mod TreeLaws
 pub mod UnionLaws

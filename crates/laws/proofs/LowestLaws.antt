@@ -7,10 +7,10 @@ use native.Mathlib.Omega.{arith}
 use lib.ListN.{length, set, List·getD-eq-default}
 use lib.Dec.{T, eqb, ltb, ltb→lt, lt→ltb}
 use Rattle.rules.specs.Bytes.{pick}
-use Rattle.rules.specs.Cell.{Positive, cells, card, present, width, lowest, value, cell, remap, singleton, without}
-use Rattle.laws.proofs.UnionLaws.{digit-mod, digit-div, digit-below}
+use Rattle.rules.specs.Cell.{Positive, cells, card, present, width, lowest, value, cell, remap, step, singleton, without}
+use Rattle.laws.proofs.UnionLaws.{digit-mod, digit-div}
 use Rattle.laws.proofs.TestLaws.{pick-ok, by-order}
-use Rattle.laws.proofs.CellLaws.{present-lt, not-above, div-below, cells-pos, value-lt, cell-lt, cell-value, without-pos, twice}
+use Rattle.laws.proofs.CellLaws.{present-lt, not-above, div-below, cells-pos, cell-lt, cell-value, without-pos, twice}
 
 -- the shape without one condition
 pub without-none : (ks : List ℕ) → without 0 ks ≡ ks
@@ -57,6 +57,13 @@ lowest-case k ks Q p h f g =
     pick-ok Q (ltb 1 k) 0 (suc (lowest ks)) (λ b. f (ltb→lt 1 k b))
     (λ n. g (le-antisymm (not-above k n) p) (pick-ok (λ (x : ℕ). 1 ≤ x + width ks → 1 ≤ width ks) (ltb 1 k) 1 0 (λ b. absurd (n b)) (λ m q. omega arith) h))
 
+-- no step before it
+pub lowest-step : (ks : List ℕ) → Positive ks → 1 ≤ width ks → step ks (lowest ks) ≡ 1
+lowest-step [] p h = absurd (not-suc-le-zero h)
+lowest-step (k ∷ ks) p h =
+    lowest-case k ks (λ (i : ℕ). step (k ∷ ks) i ≡ 1) (p .0) h (λ q. refl)
+    (λ e q. ap₂ (λ (a b : ℕ). a * b) e (lowest-step ks (p .1) q))
+
 pub lowest-two : (ks : List ℕ) → Positive ks → 1 ≤ width ks → 2 ≤ card ks (lowest ks)
 lowest-two [] p h = absurd (not-suc-le-zero h)
 lowest-two (k ∷ ks) p h = lowest-case k ks (λ (i : ℕ). 2 ≤ card (k ∷ ks) i) (p .0) h (λ q. q) (λ e q. lowest-two ks (p .1) q)
@@ -100,14 +107,6 @@ lowest-width (k ∷ ks) p h =
 
 pub lowest-fewer : (ks : List ℕ) → Positive ks → 1 ≤ width ks → width (without (singleton (lowest ks)) ks) < width ks
 lowest-fewer ks p h = omega (arith, lowest-width ks p h)
-
--- the cells of each value
-pub lowest-div : (ks : List ℕ) → Positive ks → 1 ≤ width ks → cells ks / card ks (lowest ks) ≡ cells (without (singleton (lowest ks)) ks)
-lowest-div ks p h =
-    let n = card ks (lowest ks) in
-    let rest = cells (without (singleton (lowest ks)) ks) in
-    let e : cells ks ≡ 0 + n * rest = omega (arith, lowest-cells ks p h) in
-    ap (λ (z : ℕ). z / n) e ∙ digit-div n 0 rest (omega (arith, lowest-two ks p h))
 
 -- one condition left: the cells are its values
 module _ (ks : List ℕ) (p : Positive ks) (e : width ks ≡ 1) where
@@ -156,20 +155,3 @@ module _ (ks : List ℕ) (p : Positive ks) where
   wide-left ne =
       by-order 2 (width ks) (λ le. le)
       (λ lt. by-order 1 (width ks) (λ some. absurd (ne (one-cells ks p (omega arith)))) (λ none. absurd (ne (none-cells (omega arith)))))
-
--- the cells where it is k are k + card × c
-module _ (ks : List ℕ) (k c : ℕ) (p : Positive ks) (h : 1 ≤ width ks) (hk : k < card ks (lowest ks)) (hc : c < cells (without (singleton (lowest ks)) ks)) where
-  abbrev n : ℕ
-  n = card ks (lowest ks)
-
-  pub lowest-below : k + n * c < cells ks
-  lowest-below = rw (← (lowest-cells ks p h)) (digit-below n k c _ hk hc)
-
-  digits : value ks (k + n * c) (lowest ks) + n * remap ks (without (singleton (lowest ks)) ks) (k + n * c) ≡ k + n * c
-  digits = lowest-cell ks (k + n * c) p h lowest-below
-
-  pub lowest-digit : value ks (k + n * c) (lowest ks) ≡ k
-  lowest-digit = sym (digit-mod n _ _ (value-lt ks (k + n * c) (lowest ks) p)) ∙ ap (λ (z : ℕ). z % n) digits ∙ digit-mod n k c hk
-
-  pub lowest-rest : remap ks (without (singleton (lowest ks)) ks) (k + n * c) ≡ c
-  lowest-rest = sym (digit-div n _ _ (value-lt ks (k + n * c) (lowest ks) p)) ∙ ap (λ (z : ℕ). z / n) digits ∙ digit-div n k c hk

@@ -5,10 +5,10 @@ use mathlib.Core.Bool.{Bool, true, false, _&&_, _||_}
 use mathlib.Core.List.{List, [], _∷_, _++_}
 use native.Mathlib.Nat.{mod-one, not-suc-le-zero}
 use native.Mathlib.Omega.{arith}
-use lib.Dec.{eqb, leb, ltb}
+use lib.Dec.{T, eqb, leb, ltb}
 use lib.ListN.{replicate}
 use Rattle.rules.specs.Bytes.{pick, at, tabulate, all, some}
-use Rattle.rules.specs.Cell.{cells, card, width, lowest, value, cell, has, singleton, without, moved, agreeOutside, over, overTo}
+use Rattle.rules.specs.Cell.{cells, card, present, width, lowest, mostValues, value, cell, remap, put, has, singleton, without, moved, agreeOutside, over, overTo}
 use Rattle.rules.specs.Limits.{Limits}
 use Rattle.rules.specs.Join.{above, uA, uB, lA, lB, maxExists, complement, exchangeFor, exchangeBlockFor, joinExists, firstLimits, secondLimits, maxCounts, weakCounts}
 use Rattle.rules.specs.declared.Gate.{Gate}
@@ -83,6 +83,22 @@ module _ (p : ℕ) where
       go : (o : Bool) → 1 ≤ pick o 1 0 + width ks → (1 ≤ width ks → lowest (more ks) ≡ lowest ks) → pick o 0 (suc (lowest (more ks))) ≡ pick o 0 (suc (lowest ks))
       go true h r = refl
       go false h r = ap suc (r (omega arith))
+
+  ones-most : (p : ℕ) → mostValues (replicate p 1) ≡ 0
+  ones-most zero = refl
+  ones-most (suc p) = ap (λ (x : ℕ). pick (leb x 1) 0 (suc (mostValues (replicate p 1)))) (ones-card p (mostValues (replicate p 1)))
+
+  pub most-more : (ks : List ℕ) → mostValues (more ks) ≡ mostValues ks
+  most-more [] = ones-most p
+  most-more (k ∷ ks) = ap₂ (λ (x i : ℕ). pick (leb x k) 0 (suc i)) (ap (card (more ks)) (most-more ks) ∙ card-more ks (mostValues ks)) (most-more ks)
+
+  pub remap-more : (a b : List ℕ) (c : ℕ) → remap (more a) (more b) c ≡ remap a b c
+  remap-more a b c = cell-more b (value (more a) c) ∙ ap (cell b) (fun-ext (λ i. value-more a c i))
+
+  pub put-more : (ks : List ℕ) (c i v : ℕ) → T (present ks i) → put (more ks) c i v ≡ put ks c i v
+  put-more [] c i v h = absurd h
+  put-more (k ∷ ks) c zero v h = refl
+  put-more (k ∷ ks) c (suc i) v h = ap (λ (x : ℕ). c % k + k * x) (put-more ks (c / k) i v h)
 
   ones-without : (p t : ℕ) → without t (replicate p 1) ≡ replicate p 1
   ones-without zero t = refl

@@ -8,17 +8,22 @@ use native.Mathlib.Omega.{arith}
 use lib.Dec.{T, eqb, leb, ltb}
 use lib.ListN.{length, replicate, length-append, length-replicate}
 use Rattle.rules.specs.Bytes.{pick, at, tabulate, all, numbersFrom}
-use Rattle.rules.specs.Cell.{cells, card, present, width, lowest, has, singleton, without, moved}
+use Rattle.rules.specs.Cell.{cells, card, present, width, lowest, remap, put, has, singleton, without, moved}
 use Rattle.rules.specs.Limits.{Limits, each}
 use Rattle.rules.specs.Join.{joinExists, firstLimits, secondLimits, weakCounts}
 use Rattle.rules.specs.Tree.{Tree, lookup, gated, treeGrade, size}
 use Rattle.rules.specs.Stage.{Stage, outside, computed, merged, fits, dropOne, drops, left, Grouping, none, sets, pairWith, firstPair, addCondition, grow, grouping, groups, Choice, split, joining, choose, chosen, Weak, nowhere, weakly, firstWeak, weakFound, tried, firstStage, secondStage, cofactorStage, selector, joinTree, splitPart, splitTo, splitTree, fewest, choiceTree, leftTree, mayLeft, rank, stageTree, wholeTable, compiled}
 use Rattle.rules.specs.declared.Gate.{Gate}
+use Rattle.rules.specs.declared.SplitOn.{SplitOn}
+use Rattle.rules.specs.declared.SplitOn.the-variants.{Lowest, MostValues}
+use Rattle.rules.specs.declared.Settings.{Settings}
+use Rattle.rules.specs.Settings.{splitCondition}
 use Rattle.rules.specs.declared.Gate.the-variants.{Min, Max}
 use Rattle.laws.proofs.TestLaws.{and-l, and-r, cond-ok}
 use Rattle.laws.proofs.CellLaws.{present-lt, length-without}
 use Rattle.laws.proofs.WeakLaws.{weak-none}
-use Rattle.laws.proofs.PadLaws.{more, cells-more, value-more, card-more, width-more, lowest-more, without-more, over-more, moved-more, exists-more, first-more, second-more, weak-more}
+use Rattle.laws.proofs.SplitLaws.{split-present}
+use Rattle.laws.proofs.PadLaws.{more, cells-more, value-more, card-more, width-more, lowest-more, most-more, remap-more, put-more, without-more, over-more, moved-more, exists-more, first-more, second-more, weak-more}
 
 -- places past the end
 length-drop : (i : ℕ) (x : Stage) → length (dropOne i x .ks) ≡ length (x .ks)
@@ -138,8 +143,8 @@ module _ (p : ℕ) where
       j : ℕ → ℕ → Bool
       j s t = joinExists op (x .ks) m s t (x .limits)
 
-  pub chosen-more : (m : ℕ) (x : Stage) → chosen m (padS x) ≡ chosen m x
-  chosen-more m x = ap₂ choose (groups-more m x Max) (groups-more m x Min)
+  pub chosen-more : (how : Settings) (m : ℕ) (x : Stage) → chosen how m (padS x) ≡ chosen how m x
+  chosen-more how m x = ap₂ (choose (how .tie)) (groups-more m x Max) (groups-more m x Min)
 
   found-more : (m : ℕ) (x : Stage) → weakFound m (padS x) ≡ weakFound m x
   found-more m x =
@@ -156,28 +161,32 @@ module _ (p : ℕ) where
   low-card : (ks : List ℕ) → 1 ≤ width ks → card (more p ks) (lowest (more p ks)) ≡ card ks (lowest ks)
   low-card ks w = ap (card (more p ks)) (lowest-more p ks w) ∙ card-more p ks (lowest ks)
 
-  cofactor-more : (k : ℕ) (x : Stage) → 1 ≤ width (x .ks) → cofactorStage k (padS x) ≡ padS (cofactorStage k x)
-  cofactor-more k x w =
-      ap₂ (λ (i q : ℕ). stage (without (singleton i) (more p (x .ks))) (each (λ f. tabulate (cells (without (singleton i) (more p (x .ks)))) (λ c. at f (k + q * c))) (x .limits))) (lowest-more p (x .ks) w) (low-card (x .ks) w)
-      ∙ ap (λ (b : List ℕ). stage b (each (λ f. tabulate (cells b) (λ c. at f (k + q * c))) (x .limits))) (without-more p (singleton (lowest (x .ks))) (x .ks))
-      ∙ ap (λ (n : ℕ). stage (more p (without (singleton (lowest (x .ks))) (x .ks))) (each (λ f. tabulate n (λ c. at f (k + q * c))) (x .limits))) (cells-more p (without (singleton (lowest (x .ks))) (x .ks)))
+  cofactor-more : (i k : ℕ) (x : Stage) → T (present (x .ks) i) → cofactorStage i k (padS x) ≡ padS (cofactorStage i k x)
+  cofactor-more i k x h =
+      ap (λ (b : List ℕ). stage b (each (λ f. tabulate (cells b) (λ c. at f (put (more p (x .ks)) (remap b (more p (x .ks)) c) i k))) (x .limits))) (without-more p (singleton i) (x .ks))
+      ∙ ap₂ (λ (n : ℕ) (g : ℕ → ℕ). stage (more p b) (each (λ f. tabulate n (λ c. at f (g c))) (x .limits))) (cells-more p b)
+      (fun-ext (λ c. put-more p (x .ks) (remap (more p b) (more p (x .ks)) c) i k h ∙ ap (λ (d : ℕ). put (x .ks) d i k) (remap-more p b (x .ks) c)))
     where
-      q : ℕ
-      q = card (x .ks) (lowest (x .ks))
+      b : List ℕ
+      b = without (singleton i) (x .ks)
 
-  singleton-more : (m : ℕ) (ks : List ℕ) (k : ℕ) → 1 ≤ width ks → selector m (more p ks) k ≡ selector m ks k
-  singleton-more m ks k w = ap₂ (λ (i q : ℕ). lookup i (tabulate q (λ v. pick (eqb v k) (m - 1) 0))) (lowest-more p ks w) (low-card ks w)
+  selector-more : (m : ℕ) (ks : List ℕ) (i k : ℕ) → selector m (more p ks) i k ≡ selector m ks i k
+  selector-more m ks i k = ap (λ (q : ℕ). lookup i (tabulate q (λ v. pick (eqb v k) (m - 1) 0))) (card-more p ks i)
+
+  condition-more : (on : SplitOn) (ks : List ℕ) → 1 ≤ width ks → splitCondition on (more p ks) ≡ splitCondition on ks
+  condition-more Lowest ks h = lowest-more p ks h
+  condition-more MostValues ks h = most-more p ks
 
   module _ (m : ℕ) (net : Bool → Stage → Tree) (same : (q : Bool) (z : Stage) → net q (padS z) ≡ net q z) where
-    part-more : (x : Stage) (k : ℕ) → 1 ≤ width (x .ks) → splitPart m net (padS x) k ≡ splitPart m net x k
-    part-more x k w = ap₂ (gated Min) (singleton-more m (x .ks) k w) (ap (net true) (cofactor-more k x w) ∙ same true (cofactorStage k x))
+    part-more : (i : ℕ) (x : Stage) (k : ℕ) → T (present (x .ks) i) → splitPart m net i (padS x) k ≡ splitPart m net i x k
+    part-more i x k h = ap₂ (gated Min) (selector-more m (x .ks) i k) (ap (net true) (cofactor-more i k x h) ∙ same true (cofactorStage i k x))
 
-    splitTo-more : (x : Stage) (k : ℕ) → 1 ≤ width (x .ks) → splitTo m net (padS x) k ≡ splitTo m net x k
-    splitTo-more x zero w = part-more x 0 w
-    splitTo-more x (suc k) w = ap₂ (gated Max) (splitTo-more x k w) (part-more x (suc k) w)
+    splitTo-more : (i : ℕ) (x : Stage) (k : ℕ) → T (present (x .ks) i) → splitTo m net i (padS x) k ≡ splitTo m net i x k
+    splitTo-more i x zero h = part-more i x 0 h
+    splitTo-more i x (suc k) h = ap₂ (gated Max) (splitTo-more i x k h) (part-more i x (suc k) h)
 
-    split-more : (x : Stage) → 1 ≤ width (x .ks) → splitTree m net (padS x) ≡ splitTree m net x
-    split-more x w = ap (λ (q : ℕ). splitTo m net (padS x) (q - 1)) (low-card (x .ks) w) ∙ splitTo-more x (card (x .ks) (lowest (x .ks)) - 1) w
+    split-more : (i : ℕ) (x : Stage) → T (present (x .ks) i) → splitTree m net i (padS x) ≡ splitTree m net i x
+    split-more i x h = ap (λ (q : ℕ). splitTo m net i (padS x) (q - 1)) (card-more p (x .ks) i) ∙ splitTo-more i x (card (x .ks) i - 1) h
 
     join-more : (may : Bool) (op : Gate) (s t : ℕ) (x : Stage) → joinTree m net may op s t (padS x) ≡ joinTree m net may op s t x
     join-more may op s t x =
@@ -192,31 +201,34 @@ module _ (p : ℕ) where
         a : Tree
         a = net may (firstStage m op s t x)
 
-    fewest-more : (w : Weak) (x : Stage) → 1 ≤ width (x .ks) → fewest m net w (padS x) ≡ fewest m net w x
-    fewest-more nowhere x h = split-more x h
-    fewest-more (weakly op i) x h = ap₂ (λ (a b : Tree). cond (ltb (size a) (size b)) a b) (join-more false op (singleton i) 0 x) (split-more x h)
+    fewest-more : (w : Weak) (i : ℕ) (x : Stage) → T (present (x .ks) i) → fewest m net w i (padS x) ≡ fewest m net w i x
+    fewest-more nowhere i x h = split-more i x h
+    fewest-more (weakly op j) i x h = ap₂ (λ (a b : Tree). cond (ltb (size a) (size b)) a b) (join-more false op (singleton j) 0 x) (split-more i x h)
 
-    choice-more : (may : Bool) (ch : Choice) (x : Stage) → 1 ≤ width (x .ks) → choiceTree m net may ch (padS x) ≡ choiceTree m net may ch x
-    choice-more may split x h = ap (λ (w : Weak). fewest m net (cond may w nowhere) (padS x)) (found-more m x) ∙ fewest-more (tried m may x) x h
-    choice-more may (joining op s t) x h = join-more true op s t x
+    module _ (how : Settings) where
+      choice-more : (may : Bool) (ch : Choice) (x : Stage) → 1 ≤ width (x .ks) → choiceTree how m net may ch (padS x) ≡ choiceTree how m net may ch x
+      choice-more may split x h =
+          ap₂ (λ (w : Weak) (i : ℕ). fewest m net (cond (how .weak && may) w nowhere) i (padS x)) (found-more m x) (condition-more (how .splits) (x .ks) h)
+          ∙ fewest-more (tried how m may x) (splitCondition (how .splits) (x .ks)) x (split-present (how .splits) (x .ks) h)
+      choice-more may (joining op s t) x h = join-more true op s t x
 
-    leftTree-more : (may : Bool) (n : ℕ) (x : Stage) → width (x .ks) ≡ n → leftTree m net may n (padS x) ≡ leftTree m net may n x
-    leftTree-more may zero x e = refl
-    leftTree-more may (suc zero) x e = ap₂ (λ (i q : ℕ). lookup i (tabulate q (at (x .limits .lower)))) (lowest-more p (x .ks) (omega arith)) (low-card (x .ks) (omega arith))
-    leftTree-more may (suc (suc n)) x e = ap (λ (ch : Choice). choiceTree m net may ch (padS x)) (chosen-more m x) ∙ choice-more may (chosen m x) x (omega arith)
+      leftTree-more : (may : Bool) (n : ℕ) (x : Stage) → width (x .ks) ≡ n → leftTree how m net may n (padS x) ≡ leftTree how m net may n x
+      leftTree-more may zero x e = refl
+      leftTree-more may (suc zero) x e = ap₂ (λ (i q : ℕ). lookup i (tabulate q (at (x .limits .lower)))) (lowest-more p (x .ks) (omega arith)) (low-card (x .ks) (omega arith))
+      leftTree-more may (suc (suc n)) x e = ap (λ (ch : Choice). choiceTree how m net may ch (padS x)) (chosen-more how m x) ∙ choice-more may (chosen how m x) x (omega arith)
 
   may-more : (may : Bool) (x : Stage) → mayLeft may (padS x) ≡ mayLeft may x
   may-more may x =
       ap (λ (y : Stage). may || ltb (width (y .ks)) (width (more p (x .ks)))) (left-more x)
       ∙ ap₂ (λ (a b : ℕ). may || ltb a b) (width-more p (left x .ks)) (width-more p (x .ks))
 
-  stage-more : (m f : ℕ) (may : Bool) (x : Stage) → stageTree m f may (padS x) ≡ stageTree m f may x
-  stage-more m zero may x = refl
-  stage-more m (suc f) may x =
-      ap₂ (λ (q : Bool) (y : Stage). leftTree m (stageTree m f) q (width (y .ks)) y) (may-more may x) (left-more x)
-      ∙ ap (λ (n : ℕ). leftTree m (stageTree m f) (mayLeft may x) n (padS (left x))) (width-more p (left x .ks))
-      ∙ leftTree-more m (stageTree m f) (stage-more m f) (mayLeft may x) (width (left x .ks)) (left x) refl
+  stage-more : (how : Settings) (m f : ℕ) (may : Bool) (x : Stage) → stageTree how m f may (padS x) ≡ stageTree how m f may x
+  stage-more how m zero may x = refl
+  stage-more how m (suc f) may x =
+      ap₂ (λ (q : Bool) (y : Stage). leftTree how m (stageTree how m f) q (width (y .ks)) y) (may-more may x) (left-more x)
+      ∙ ap (λ (n : ℕ). leftTree how m (stageTree how m f) (mayLeft may x) n (padS (left x))) (width-more p (left x .ks))
+      ∙ leftTree-more m (stageTree how m f) (stage-more how m f) how (mayLeft may x) (width (left x .ks)) (left x) refl
 
-  pub compiled-more : (ks : List ℕ) (m : ℕ) (l : Limits) → compiled (more p ks) m l ≡ compiled ks m l
-  compiled-more ks m l =
-      ap (λ (w : ℕ). stageTree m (2 * w + 1) true (padS (wholeTable ks l))) (width-more p ks) ∙ stage-more m (rank true (wholeTable ks l)) true (wholeTable ks l)
+  pub compiled-more : (how : Settings) (ks : List ℕ) (m : ℕ) (l : Limits) → compiled how (more p ks) m l ≡ compiled how ks m l
+  compiled-more how ks m l =
+      ap (λ (w : ℕ). stageTree how m (2 * w + 1) true (padS (wholeTable ks l))) (width-more p ks) ∙ stage-more how m (rank true (wholeTable ks l)) true (wholeTable ks l)

@@ -14,8 +14,9 @@ use Rattle.rules.specs.Limits.{Limits}
 use Rattle.rules.specs.Join.{above, uA, uB, lA, exchangeFor, joinExists, weakCounts}
 use Rattle.rules.specs.Stage.{Stage, left, Weak, nowhere, weakly, firstWeak, weakFound, tried, firstStage, mayLeft, rank}
 use Rattle.rules.specs.declared.Gate.{Gate}
+use Rattle.rules.specs.declared.Settings.{Settings}
 use Rattle.rules.specs.declared.Gate.the-variants.{Min, Max}
-use Rattle.laws.proofs.TestLaws.{and-l, cond-ok, pick-ok}
+use Rattle.laws.proofs.TestLaws.{and-l, and-r, cond-ok, pick-ok}
 use Rattle.laws.proofs.TableLaws.{at-tabulate}
 use Rattle.laws.proofs.OverLaws.{Bound, min-bound, max-bound, over-bound, over-self}
 use Rattle.laws.proofs.SetLaws.{has-same, has-none}
@@ -66,13 +67,14 @@ found-present m x =
     (λ op i h. and-l (present (x .ks) i) (weakCounts op (x .ks) m i (x .limits)) h)
 
 -- so where one is tried; and then the stage may
-pub tried-may : (m : ℕ) (may : Bool) (x : Stage) → WeakOf (λ op i. T may × T (present (x .ks) i)) (tried m may x)
-tried-may m true x = go (weakFound m x) (found-present m x)
+pub tried-may : (how : Settings) (m : ℕ) (may : Bool) (x : Stage) → WeakOf (λ op i. T may × T (present (x .ks) i)) (tried how m may x)
+tried-may how m may x =
+    cond-ok (WeakOf (λ op i. T may × T (present (x .ks) i))) (how .weak && may) (weakFound m x) nowhere
+    (λ b. go (weakFound m x) (and-r (how .weak) may b) (found-present m x)) (λ n. tt)
   where
-    go : (w : Weak) → WeakOf (λ op i. T (present (x .ks) i)) w → WeakOf (λ op i. T true × T (present (x .ks) i)) w
-    go nowhere h = tt
-    go (weakly op i) h = (tt, h)
-tried-may m false x = tt
+    go : (w : Weak) → T may → WeakOf (λ op i. T (present (x .ks) i)) w → WeakOf (λ op i. T may × T (present (x .ks) i)) w
+    go nowhere y h = tt
+    go (weakly op i) y h = (y, h)
 
 -- what a search over the numbers from a finds
 module _ (counts : Gate → ℕ → Bool) where

@@ -7,6 +7,7 @@ use Rattle.rules.specs.SmallVisits.{Visits}
 use Rattle.rules.specs.SmallWeak.{WeakJoins}
 use Rattle.rules.specs.SmallEditions.{Conversions}
 use Rattle.rules.specs.SmallCeilings.{Ceilings}
+use Rattle.rules.specs.SmallSettings.{SettingsTaken}
 
 pub small-tables : Small
 small-tables =
@@ -33,3 +34,7 @@ conversions =
 pub ceilings : Ceilings
 ceilings =
     (refl, refl, refl, refl, refl, refl, refl, refl, refl, refl, refl, refl, refl, refl, refl, refl, refl, refl, refl, refl, refl, refl, refl)
+
+pub settings-taken : SettingsTaken
+settings-taken =
+    (refl, refl, refl, refl, refl, refl, refl, refl, refl, refl, refl, refl, refl, refl, refl, refl, refl, refl, refl, refl, refl, refl, refl, refl, refl, refl, refl, refl, refl, refl, refl, refl, refl, refl, refl, refl, refl, refl, refl, refl, refl)

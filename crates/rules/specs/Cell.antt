@@ -6,7 +6,7 @@ use Prim.Native.Nat.{ℕ, zero, suc, _+_, _*_, _/_, _%_, _<_, min, max}
 use mathlib.Core.Path.{_≡_}
 use mathlib.Core.Bool.{Bool, true, _&&_, _||_}
 use mathlib.Core.List.{List, [], _∷_}
-use lib.Dec.{T, eqb, ltb}
+use lib.Dec.{T, eqb, leb, ltb}
 use lib.ListN.{getD}
 use Rattle.rules.specs.Bytes.{pick, at, tabulate}
 
@@ -37,6 +37,11 @@ width (k ∷ ks) = pick (ltb 1 k) 1 0 + width ks
 abbrev pub lowest : List ℕ → ℕ
 lowest [] = 0
 lowest (k ∷ ks) = pick (ltb 1 k) 0 (suc (lowest ks))
+
+-- the condition with most values, the lowest on a tie
+abbrev pub mostValues : List ℕ → ℕ
+mostValues [] = 0
+mostValues (k ∷ ks) = pick (leb (card ks (mostValues ks)) k) 0 (suc (mostValues ks))
 
 -- the value of condition i at cell c
 abbrev pub value : List ℕ → ℕ → ℕ → ℕ

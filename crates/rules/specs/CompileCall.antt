@@ -5,6 +5,7 @@ use mathlib.Core.List.{List, [], _∷_}
 use lib.Dec.{leb, eqb}
 use lib.ListN.{take}
 use Rattle.rules.specs.declared.Refusal.the-variants.{ShapeRange, GradeLimits, ShortBuffer}
+use Rattle.rules.specs.declared.Settings.{Settings}
 use Rattle.rules.specs.Bytes.{pick}
 use Rattle.rules.specs.Cell.{cells}
 use Rattle.rules.specs.Shape.{places, shapeSound}
@@ -33,10 +34,11 @@ compileRoom c lower upper work network = tableRoom c lower upper work && leb (16
 abbrev pub lentLimits : List ℕ → List ℕ → List ℕ → Limits
 lentLimits ks lower upper = limitsOf (take (cells ks) lower) (take (cells ks) upper)
 
--- a shape's bytes, the lengths of the four buffers, and the table's limits: rows 4, 10 and 5, then the records of the table's network
-abbrev pub compileCall : ℕ → List ℕ → ℕ → ℕ → ℕ → ℕ → ℕ → Limits → Verdict (List Record)
-compileCall n cards m lower upper work network l =
+-- the settings, a shape's bytes, the lengths of the four buffers, and the table's limits: rows 4, 10 and 5, then the records of the
+-- table's network
+abbrev pub compileCall : Settings → ℕ → List ℕ → ℕ → ℕ → ℕ → ℕ → ℕ → Limits → Verdict (List Record)
+compileCall how n cards m lower upper work network l =
     unless (shapeSound n cards m) ShapeRange
     (unless (compileRoom (cells (places cards)) lower upper work network) ShortBuffer
     (unless (limitsSound (places cards) m l) GradeLimits
-    (accepted (compiledRecords (places cards) m l))))
+    (accepted (compiledRecords how (places cards) m l))))

@@ -7,6 +7,8 @@ use mathlib.Core.Logic.{_⊎_, _↔_}
 use lib.Dec.{T}
 use lib.ListN.{length}
 use Rattle.rules.specs.declared.Gate.{Gate}
+use Rattle.rules.specs.declared.Settings.{Settings}
+use Rattle.rules.specs.Settings.{splitCondition}
 use Rattle.rules.specs.Bytes.{at, tabulate}
 use Rattle.rules.specs.Cell.{Blind, Positive, cells, card, present, width, lowest, has, singleton}
 use Rattle.rules.specs.Shape.{maxConditions, maxCardinality, maxGrades, maxCells}
@@ -69,20 +71,21 @@ Capped ks net = (c k : ℕ) → k < length net / 16 → recordGradeAt ks net c k
 -- The stages of the table whose first stage is x₀, and whether each may take a weak join: that one, and every one that a stage among
 -- them starts. Where no join exists a stage starts those of the split and those of the weak join that it tries; all of them count
 -- here, also those whose records are then not in the network.
-pub data StageOf (m : ℕ) (x₀ : Stage) : Bool → Stage → Type 0 where
-  itself : StageOf m x₀ true x₀
-  first-block : {may : Bool} {x : Stage} (op : Gate) (s t : ℕ) → StageOf m x₀ may x → 2 ≤ width (left x .ks) → chosen m (left x) ≡ joining op s t
-      → StageOf m x₀ true (firstStage m op s t (left x))
-  second-block : {may : Bool} {x : Stage} (op : Gate) (s t : ℕ) → StageOf m x₀ may x → 2 ≤ width (left x .ks) → chosen m (left x) ≡ joining op s t
-      → StageOf m x₀ true (secondStage m op s t (left x) (computed (left x .ks) (treeOf m true (firstStage m op s t (left x)))))
-  cofactor : {may : Bool} {x : Stage} (k : ℕ) → StageOf m x₀ may x → 2 ≤ width (left x .ks) → chosen m (left x) ≡ split → k < card (left x .ks) (lowest (left x .ks))
-      → StageOf m x₀ true (cofactorStage k (left x))
-  weak-first : {may : Bool} {x : Stage} (op : Gate) (i : ℕ) → StageOf m x₀ may x → 2 ≤ width (left x .ks)
-      → chosen m (left x) ≡ split → tried m (mayLeft may x) (left x) ≡ weakly op i
-      → StageOf m x₀ false (firstStage m op (singleton i) 0 (left x))
-  weak-second : {may : Bool} {x : Stage} (op : Gate) (i : ℕ) → StageOf m x₀ may x → 2 ≤ width (left x .ks)
-      → chosen m (left x) ≡ split → tried m (mayLeft may x) (left x) ≡ weakly op i
-      → StageOf m x₀ true (secondStage m op (singleton i) 0 (left x) (computed (left x .ks) (treeOf m false (firstStage m op (singleton i) 0 (left x)))))
+pub data StageOf (how : Settings) (m : ℕ) (x₀ : Stage) : Bool → Stage → Type 0 where
+  itself : StageOf how m x₀ true x₀
+  first-block : {may : Bool} {x : Stage} (op : Gate) (s t : ℕ) → StageOf how m x₀ may x → 2 ≤ width (left x .ks) → chosen how m (left x) ≡ joining op s t
+      → StageOf how m x₀ true (firstStage m op s t (left x))
+  second-block : {may : Bool} {x : Stage} (op : Gate) (s t : ℕ) → StageOf how m x₀ may x → 2 ≤ width (left x .ks) → chosen how m (left x) ≡ joining op s t
+      → StageOf how m x₀ true (secondStage m op s t (left x) (computed (left x .ks) (treeOf how m true (firstStage m op s t (left x)))))
+  cofactor : {may : Bool} {x : Stage} (k : ℕ) → StageOf how m x₀ may x → 2 ≤ width (left x .ks) → chosen how m (left x) ≡ split
+      → k < card (left x .ks) (splitCondition (how .splits) (left x .ks))
+      → StageOf how m x₀ true (cofactorStage (splitCondition (how .splits) (left x .ks)) k (left x))
+  weak-first : {may : Bool} {x : Stage} (op : Gate) (i : ℕ) → StageOf how m x₀ may x → 2 ≤ width (left x .ks)
+      → chosen how m (left x) ≡ split → tried how m (mayLeft may x) (left x) ≡ weakly op i
+      → StageOf how m x₀ false (firstStage m op (singleton i) 0 (left x))
+  weak-second : {may : Bool} {x : Stage} (op : Gate) (i : ℕ) → StageOf how m x₀ may x → 2 ≤ width (left x .ks)
+      → chosen how m (left x) ≡ split → tried how m (mayLeft may x) (left x) ≡ weakly op i
+      → StageOf how m x₀ true (secondStage m op (singleton i) 0 (left x) (computed (left x .ks) (treeOf how m false (firstStage m op (singleton i) 0 (left x)))))
 
 -- every condition of s is in t
 abbrev pub Subset : ℕ → ℕ → Type 0
@@ -106,38 +109,38 @@ pub record Admits (m : ℕ) (y : Stage) (op : Gate) (s t : ℕ) : Type 0 where
   pub joins : T (joinExists op (y .ks) m s t (y .limits))
 
 -- the choice of a stage
-pub record Exact (m : ℕ) (y : Stage) : Type 0 where
+pub record Exact (how : Settings) (m : ℕ) (y : Stage) : Type 0 where
   -- a split, or a weak join in its place, exactly when no two sets admit a join by either gate
-  pub splits : (chosen m y ≡ split) ↔ ((op : Gate) (s t : ℕ) → Admits m y op s t → ⊥)
+  pub splits : (chosen how m y ≡ split) ↔ ((op : Gate) (s t : ℕ) → Admits m y op s t → ⊥)
   -- the sets of a join admit it
-  pub admitted : (op : Gate) (s t : ℕ) → chosen m y ≡ joining op s t → Admits m y op s t
+  pub admitted : (op : Gate) (s t : ℕ) → chosen how m y ≡ joining op s t → Admits m y op s t
   -- and can't be extended
-  pub largest : (op : Gate) (s t : ℕ) → chosen m y ≡ joining op s t
+  pub largest : (op : Gate) (s t : ℕ) → chosen how m y ≡ joining op s t
       → (s′ t′ : ℕ) → Subset s s′ → Subset t t′ → Larger s s′ ⊎ Larger t t′ → Admits m y op s′ t′ → ⊥
 
 -- what a stage gives, which may take a weak join or not: step 2's record where none or one condition is left, else what its choice starts,
 -- and that choice is exact
-pub record Built (m : ℕ) (may : Bool) (x : Stage) : Type 0 where
-  pub none-left : width (left x .ks) ≡ 0 → treeOf m may x ≡ fixed (at (left x .limits .lower) 0)
+pub record Built (how : Settings) (m : ℕ) (may : Bool) (x : Stage) : Type 0 where
+  pub none-left : width (left x .ks) ≡ 0 → treeOf how m may x ≡ fixed (at (left x .limits .lower) 0)
   pub one-left : width (left x .ks) ≡ 1
-      → treeOf m may x ≡ lookup (lowest (left x .ks)) (tabulate (card (left x .ks) (lowest (left x .ks))) (at (left x .limits .lower)))
+      → treeOf how m may x ≡ lookup (lowest (left x .ks)) (tabulate (card (left x .ks) (lowest (left x .ks))) (at (left x .limits .lower)))
   pub more-left : 2 ≤ width (left x .ks)
-      → Exact m (left x) × (treeOf m may x ≡ choiceTree m (treeOf m) (mayLeft may x) (chosen m (left x)) (left x))
+      → Exact how m (left x) × (treeOf how m may x ≡ choiceTree how m (treeOf how m) (mayLeft may x) (chosen how m (left x)) (left x))
 
 -- so in every stage of the table
-abbrev pub EveryStage : List ℕ → ℕ → Limits → Type 0
-EveryStage ks m l = (may : Bool) (x : Stage) → StageOf m (wholeTable ks l) may x → Built m may x
+abbrev pub EveryStage : Settings → List ℕ → ℕ → Limits → Type 0
+EveryStage how ks m l = (may : Bool) (x : Stage) → StageOf how m (wholeTable ks l) may x → Built how m may x
 
 -- the records of a table's network
-abbrev pub compiledRecords : List ℕ → ℕ → Limits → List Record
-compiledRecords ks m l = records (compiled ks m l) 0
+abbrev pub compiledRecords : Settings → List ℕ → ℕ → Limits → List Record
+compiledRecords how ks m l = records (compiled how ks m l) 0
 
 -- demand 3 of a table and its network's bytes
-pub record Compiled (ks : List ℕ) (m : ℕ) (l : Limits) : Type 0 where
-  pub within : Inside ks l (evaluate ks (networkBytes (compiledRecords ks m l)))
-  pub sound : T (networkSound ks m (networkBytes (compiledRecords ks m l)))
-  pub reads : networkRecords ks (networkBytes (compiledRecords ks m l)) ≡ compiledRecords ks m l
-  pub capped : Capped ks (networkBytes (compiledRecords ks m l))
-  pub one : cells ks ≡ 1 → length (compiledRecords ks m l) ≡ 1
-  pub most : 2 ≤ cells ks → length (compiledRecords ks m l) ≤ 3 * cells ks - 5
-  pub stages : EveryStage ks m l
+pub record Compiled (how : Settings) (ks : List ℕ) (m : ℕ) (l : Limits) : Type 0 where
+  pub within : Inside ks l (evaluate ks (networkBytes (compiledRecords how ks m l)))
+  pub sound : T (networkSound ks m (networkBytes (compiledRecords how ks m l)))
+  pub reads : networkRecords ks (networkBytes (compiledRecords how ks m l)) ≡ compiledRecords how ks m l
+  pub capped : Capped ks (networkBytes (compiledRecords how ks m l))
+  pub one : cells ks ≡ 1 → length (compiledRecords how ks m l) ≡ 1
+  pub most : 2 ≤ cells ks → length (compiledRecords how ks m l) ≤ 3 * cells ks - 5
+  pub stages : EveryStage how ks m l

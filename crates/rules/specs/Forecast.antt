@@ -4,6 +4,7 @@ use mathlib.Core.Path.{_≡_}
 use mathlib.Core.List.{List, [], _∷_, _++_}
 use lib.Dec.{T}
 use lib.ListN.{length, getD}
+use Rattle.rules.specs.declared.Settings.{Settings}
 use Rattle.rules.specs.declared.Refusal.the-variants.{ShapeRange, GradeLimits, ShortBuffer}
 use Rattle.rules.specs.Cell.{cells}
 use Rattle.rules.specs.Shape.{places, shapeSound}
@@ -36,18 +37,18 @@ pub record Forecast : Type 0 where
 abbrev pub forecastOf : List Record → Forecast
 forecastOf rs = record { count = length rs; depth = networkDepth rs }
 
--- a shape's bytes, the lengths of the three buffers, and the table's limits: rows 4, 10 and 5, then what is told of the table's network.
+-- the settings, a shape's bytes, the lengths of the three buffers, and the table's limits: rows 4, 10 and 5, then what is told of the table's network.
 -- No network buffer is lent, so row 10 asks for none
-abbrev pub forecastCall : ℕ → List ℕ → ℕ → ℕ → ℕ → ℕ → Limits → Verdict Forecast
-forecastCall n cards m lower upper work l =
+abbrev pub forecastCall : Settings → ℕ → List ℕ → ℕ → ℕ → ℕ → ℕ → Limits → Verdict Forecast
+forecastCall how n cards m lower upper work l =
     unless (shapeSound n cards m) ShapeRange
     (unless (tableRoom (cells (places cards)) lower upper work) ShortBuffer
     (unless (limitsSound (places cards) m l) GradeLimits
-    (accepted (forecastOf (compiledRecords (places cards) m l)))))
+    (accepted (forecastOf (compiledRecords how (places cards) m l)))))
 
 -- the claim: beside a compile of the same table whose network buffer is long enough for it, if it is a table at all, a forecast stops where
 -- that stops, and else tells of the records that it writes
-abbrev pub Foretold : ℕ → List ℕ → ℕ → ℕ → ℕ → ℕ → Limits → Type 0
-Foretold n cards m lower upper work l =
+abbrev pub Foretold : Settings → ℕ → List ℕ → ℕ → ℕ → ℕ → ℕ → Limits → Type 0
+Foretold how n cards m lower upper work l =
     (network : ℕ) → (T (shapeSound n cards m) → 16 * mostRecords (cells (places cards)) ≤ network)
-    → forecastCall n cards m lower upper work l ≡ andThen (compileCall n cards m lower upper work network l) (λ rs. accepted (forecastOf rs))
+    → forecastCall how n cards m lower upper work l ≡ andThen (compileCall how n cards m lower upper work network l) (λ rs. accepted (forecastOf rs))

@@ -13,6 +13,7 @@ pub mod Editions
 pub mod Join
 pub mod Network
 pub mod NetworkCalls
+pub mod Settings
 pub mod Tree
 pub mod Stage
 pub mod Demands
@@ -27,3 +28,4 @@ pub mod Listing
 pub mod SmallListings
 pub mod SmallEditions
 pub mod SmallCeilings
+pub mod SmallSettings

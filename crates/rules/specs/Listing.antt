@@ -17,6 +17,7 @@ use Rattle.rules.specs.Verdict.{Verdict, accepted, refused, andThen}
 use Rattle.rules.specs.TableFile.{judgeFile, fileLimits}
 use Rattle.rules.specs.Editions.{convertCall}
 use Rattle.rules.specs.Network.{Record, constant, literal, gate}
+use Rattle.rules.specs.Settings.{usual}
 use Rattle.rules.specs.Demands.{compiledRecords}
 
 -- the bytes of a text in ASCII
@@ -84,7 +85,7 @@ printed (refused q) = refusalLine q
 
 -- a table file: the refusal of the first row that it breaks, or the records of its table's network
 abbrev pub fileNetwork : List ℕ → Verdict (List Record)
-fileNetwork file = andThen (judgeFile Ours file) (λ s. accepted (compiledRecords (places (s .cards)) (s .m) (fileLimits file s)))
+fileNetwork file = andThen (judgeFile Ours file) (λ s. accepted (compiledRecords usual (places (s .cards)) (s .m) (fileLimits file s)))
 
 -- what the program prints for it
 abbrev pub answerTo : List ℕ → List ℕ

@@ -7,6 +7,8 @@ use lib.ListN.{length, replicate}
 use Rattle.rules.specs.declared.Gate.{Gate}
 use Rattle.rules.specs.declared.Gate.the-variants.{Min, Max}
 use Rattle.rules.specs.declared.Edition.the-variants.{Ours}
+use Rattle.rules.specs.declared.Settings.{Settings}
+use Rattle.rules.specs.Settings.{usual}
 use Rattle.rules.specs.Bytes.{tabulate}
 use Rattle.rules.specs.Verdict.{Verdict, accepted, verdictNumber}
 use Rattle.rules.specs.Shape.{places, shapeSound}
@@ -26,9 +28,12 @@ cardBytes cards = cards ++ replicate (8 - length cards) 0
 abbrev pub limits : List ℕ → List ℕ → Limits
 limits l u = record { lower = l; upper = u }
 
--- the records of a table; of one whose lower and upper grades are equal
+-- the records of a table under settings; under the usual ones; and of a table whose lower and upper grades are equal
+abbrev pub networkSet : Settings → List ℕ → ℕ → List ℕ → List ℕ → List Record
+networkSet how cards m l u = records (compiled how (places (cardBytes cards)) m (limits l u)) 0
+
 abbrev pub network : List ℕ → ℕ → List ℕ → List ℕ → List Record
-network cards m l u = records (compiled (places (cardBytes cards)) m (limits l u)) 0
+network = networkSet usual
 
 abbrev pub exactNetwork : List ℕ → ℕ → List ℕ → List Record
 exactNetwork cards m t = network cards m t t
@@ -66,7 +71,7 @@ parity = 0 ∷ 1 ∷ 1 ∷ 0 ∷ 1 ∷ 0 ∷ 0 ∷ 1 ∷ []
 
 -- the refusal of compiling E in buffers of these lengths, under these limits; 0 if none
 abbrev pub compileE : List ℕ → ℕ → ℕ → ℕ
-compileE l work net = verdictNumber (compileCall 2 (cardBytes two) 2 4 4 work net (limits l E))
+compileE l work net = verdictNumber (compileCall usual 2 (cardBytes two) 2 4 4 work net (limits l E))
 
 -- a record of a table file: its first bytes, and zeros
 abbrev pub fileRecord : List ℕ → List ℕ
@@ -137,7 +142,7 @@ Small =
     -- the edges: 8 8 8 2 is a shape, 8 8 8 3 is none, and parity of three has the most records that 8 cells can
     × (shapeSound 4 (cardBytes (8 ∷ 8 ∷ 8 ∷ 2 ∷ [])) 2 ≡ true)
     × (shapeSound 4 (cardBytes (8 ∷ 8 ∷ 8 ∷ 3 ∷ [])) 2 ≡ false)
-    × (size (compiled (places (cardBytes three)) 2 (limits parity parity)) ≡ 19)
+    × (size (compiled usual (places (cardBytes three)) 2 (limits parity parity)) ≡ 19)
     -- step 1, each drop against the limits as they then are: after two of these three conditions the last one stays
     × (network three 2 (0 ∷ 0 ∷ 0 ∷ 0 ∷ 0 ∷ 0 ∷ 0 ∷ 1 ∷ []) (0 ∷ 0 ∷ 0 ∷ 1 ∷ 1 ∷ 1 ∷ 1 ∷ 1 ∷ []) ≡ literal 2 (0 ∷ 1 ∷ []) ∷ [])
     -- step 4, a full tie: both gates join {0} and {1}
@@ -185,7 +190,7 @@ Small =
     × (compileE E 128 111 ≡ 10)
     × (compileE (0 ∷ 1 ∷ 1 ∷ 1 ∷ []) 127 112 ≡ 10)
     × (compileE (0 ∷ 1 ∷ 1 ∷ 1 ∷ []) 128 112 ≡ 5)
-    × (verdictNumber (compileCall 4 (cardBytes (8 ∷ 8 ∷ 8 ∷ 3 ∷ [])) 2 0 0 0 0 (limits [] [])) ≡ 4)
+    × (verdictNumber (compileCall usual 4 (cardBytes (8 ∷ 8 ∷ 8 ∷ 3 ∷ [])) 2 0 0 0 0 (limits [] [])) ≡ 4)
     -- reading: E's file, and one for each refusal, the order of rows 2, 3, 6, 5 among them
     × (judgeFile Ours fileE ≡ accepted seenE)
     × (fileLimits fileE seenE ≡ limits E E)

@@ -3,6 +3,7 @@ use Prim.Native.Nat.{ℕ}
 use mathlib.Core.Path.{_≡_}
 use mathlib.Core.List.{List, [], _∷_}
 use Rattle.rules.specs.declared.Gate.the-variants.{Min, Max}
+use Rattle.rules.specs.Settings.{usual}
 use Rattle.rules.specs.Verdict.{Verdict, accepted, verdictNumber}
 use Rattle.rules.specs.Network.{constant, literal, gate}
 use Rattle.rules.specs.Forecast.{Forecast, networkDepth, forecastOf, forecastCall}
@@ -13,7 +14,7 @@ figures count depth = record { count = count; depth = depth }
 
 -- of a table over cardinalities 2 2 with m grades and E's upper limits, in buffers of these lengths
 abbrev pub forecastTwo : List ℕ → ℕ → ℕ → ℕ → ℕ → Verdict Forecast
-forecastTwo l m lower upper work = forecastCall 2 (cardBytes two) m lower upper work (limits l E)
+forecastTwo l m lower upper work = forecastCall usual 2 (cardBytes two) m lower upper work (limits l E)
 
 abbrev pub Forecasts : Type 0
 Forecasts =

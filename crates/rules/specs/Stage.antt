@@ -1,4 +1,4 @@
--- 01, Stages, and request 5: from a table to its network.
+-- 01, Stages, and requests 5 and 8: from a table to its network.
 use Prim.Native.Nat.{ℕ, zero, suc, _+_, _-_, _*_, _/_, _%_}
 use mathlib.Core.Bool.{Bool, true, false, cond, not, _&&_, _||_}
 use mathlib.Core.List.{List, [], _∷_}
@@ -6,8 +6,10 @@ use lib.Dec.{leb, ltb, eqb}
 use lib.ListN.{length}
 use Rattle.rules.specs.declared.Gate.{Gate}
 use Rattle.rules.specs.declared.Gate.the-variants.{Min, Max}
+use Rattle.rules.specs.declared.Settings.{Settings}
+use Rattle.rules.specs.Settings.{lessOrTie, splitCondition}
 use Rattle.rules.specs.Bytes.{pick, at, tabulate, all, numbersFrom}
-use Rattle.rules.specs.Cell.{cells, card, present, width, lowest, value, has, insert, singleton, without, moved, greatestOver, leastOver}
+use Rattle.rules.specs.Cell.{cells, card, present, width, lowest, value, remap, put, has, insert, singleton, without, moved, greatestOver, leastOver}
 use Rattle.rules.specs.Limits.{Limits, each}
 use Rattle.rules.specs.Join.{joinExists, firstLimits, secondLimits, weakCounts}
 use Rattle.rules.specs.Tree.{Tree, fixed, lookup, gated, treeGrade, size}
@@ -108,20 +110,21 @@ pub data Choice : Type 0 where
 abbrev pub difference : ℕ → ℕ → ℕ
 difference a b = (a - b) + (b - a)
 
--- whether the max grouping s, t is taken before the min grouping s′, t′: more conditions, then the smaller difference, then max
-abbrev pub keepsMax : ℕ → ℕ → ℕ → ℕ → Bool
-keepsMax s t s′ t′ =
+-- whether the max grouping s, t is taken before the min grouping s′, t′: more conditions, then the smaller difference, then the gate that
+-- wins a full tie
+abbrev pub keepsMax : Gate → ℕ → ℕ → ℕ → ℕ → Bool
+keepsMax tie s t s′ t′ =
     ltb (count s′ + count t′) (count s + count t)
-    || (eqb (count s′ + count t′) (count s + count t) && leb (difference (count s) (count t)) (difference (count s′) (count t′)))
+    || (eqb (count s′ + count t′) (count s + count t) && lessOrTie tie (difference (count s) (count t)) (difference (count s′) (count t′)))
 
-abbrev pub choose : Grouping → Grouping → Choice
-choose none none = split
-choose none (sets s t) = joining Min s t
-choose (sets s t) none = joining Max s t
-choose (sets s t) (sets s′ t′) = cond (keepsMax s t s′ t′) (joining Max s t) (joining Min s′ t′)
+abbrev pub choose : Gate → Grouping → Grouping → Choice
+choose tie none none = split
+choose tie none (sets s t) = joining Min s t
+choose tie (sets s t) none = joining Max s t
+choose tie (sets s t) (sets s′ t′) = cond (keepsMax tie s t s′ t′) (joining Max s t) (joining Min s′ t′)
 
-abbrev pub chosen : ℕ → Stage → Choice
-chosen m x = choose (groups m x Max) (groups m x Min)
+abbrev pub chosen : Settings → ℕ → Stage → Choice
+chosen how m x = choose (how .tie) (groups m x Max) (groups m x Min)
 
 -- Step 5. The stages that a join starts
 abbrev pub firstStage : ℕ → Gate → ℕ → ℕ → Stage → Stage
@@ -131,17 +134,19 @@ firstStage m op s t x = outside t x (firstLimits op (x .ks) m s t (x .limits))
 abbrev pub secondStage : ℕ → Gate → ℕ → ℕ → Stage → List ℕ → Stage
 secondStage m op s t x g = outside s x (secondLimits op (x .ks) m s t (x .limits) g)
 
--- Step 6. The stage that a split starts for value k. No condition is below the one split on, so its cells with value k are k + card × c.
--- In the field: the cofactor at value k; a split is an expansion by cofactors
-abbrev pub cofactorStage : ℕ → Stage → Stage
-cofactorStage k x =
-    let i = lowest (x .ks) in
-    let b = without (singleton i) (x .ks) in
-    record { ks = b; limits = each (λ f. tabulate (cells b) (λ c. at f (k + card (x .ks) i * c))) (x .limits) }
+-- Step 6. The cell that has value k of condition i, and of the others the values of cell c of the shape without it
+abbrev pub cofactorCell : List ℕ → ℕ → ℕ → ℕ → ℕ
+cofactorCell ks i k c = put ks (remap (without (singleton i) ks) ks c) i k
 
--- the literal that selects value k
-abbrev pub selector : ℕ → List ℕ → ℕ → Tree
-selector m ks k = lookup (lowest ks) (tabulate (card ks (lowest ks)) (λ v. pick (eqb v k) (m - 1) 0))
+-- the stage that a split on condition i starts for value k. In the field: the cofactor at value k; a split is an expansion by cofactors
+abbrev pub cofactorStage : ℕ → ℕ → Stage → Stage
+cofactorStage i k x =
+    let b = without (singleton i) (x .ks) in
+    record { ks = b; limits = each (λ f. tabulate (cells b) (λ c. at f (cofactorCell (x .ks) i k c))) (x .limits) }
+
+-- the literal that selects value k of condition i
+abbrev pub selector : ℕ → List ℕ → ℕ → ℕ → Tree
+selector m ks i k = lookup i (tabulate (card ks i) (λ v. pick (eqb v k) (m - 1) 0))
 
 -- Request 5. A weak join by a gate at condition i, or none
 pub data Weak : Type 0 where
@@ -158,11 +163,11 @@ firstWeak counts (i ∷ is) =
 abbrev pub weakFound : ℕ → Stage → Weak
 weakFound m x = firstWeak (λ op i. present (x .ks) i && weakCounts op (x .ks) m i (x .limits)) (numbersFrom 0 (length (x .ks)))
 
--- the one that is built, if the stage may take one
-abbrev pub tried : ℕ → Bool → Stage → Weak
-tried m may x = cond may (weakFound m x) nowhere
+-- the one that is built, if weak joins are tried and the stage may take one
+abbrev pub tried : Settings → ℕ → Bool → Stage → Weak
+tried how m may x = cond (how .weak && may) (weakFound m x) nowhere
 
--- the tree of a stage, where `net` gives those of the stages that it starts; `may`: whether a stage may take a weak join
+-- the trees of joins and splits, where `net` gives those of the stages that they start; `may`: whether a stage may take a weak join
 module _ (m : ℕ) (net : Bool → Stage → Tree) where
   -- step 5; `may` is for the first block
   abbrev pub joinTree : Bool → Gate → ℕ → ℕ → Stage → Tree
@@ -170,39 +175,41 @@ module _ (m : ℕ) (net : Bool → Stage → Tree) where
       let a : Tree = net may (firstStage m op s t x) in
       gated op a (net true (secondStage m op s t x (computed (x .ks) a)))
 
-  -- step 6, one value
-  abbrev pub splitPart : Stage → ℕ → Tree
-  splitPart x k = gated Min (selector m (x .ks) k) (net true (cofactorStage k x))
+  -- step 6, on condition i: one value
+  abbrev pub splitPart : ℕ → Stage → ℕ → Tree
+  splitPart i x k = gated Min (selector m (x .ks) i k) (net true (cofactorStage i k x))
 
-  -- step 6, the values 0 to k
-  abbrev pub splitTo : Stage → ℕ → Tree
-  splitTo x zero = splitPart x 0
-  splitTo x (suc k) = gated Max (splitTo x k) (splitPart x (suc k))
+  -- the values 0 to k
+  abbrev pub splitTo : ℕ → Stage → ℕ → Tree
+  splitTo i x zero = splitPart i x 0
+  splitTo i x (suc k) = gated Max (splitTo i x k) (splitPart i x (suc k))
 
-  abbrev pub splitTree : Stage → Tree
-  splitTree x = splitTo x (card (x .ks) (lowest (x .ks)) - 1)
+  abbrev pub splitTree : ℕ → Stage → Tree
+  splitTree i x = splitTo i x (card (x .ks) i - 1)
 
-  -- request 5, with S = {i} and T empty: the first block keeps all conditions, and may take no weak join
+  -- request 5, with S = {j} and T empty: the first block keeps all conditions, and may take no weak join
   abbrev pub weakTree : Gate → ℕ → Stage → Tree
-  weakTree op i x = joinTree false op (singleton i) 0 x
+  weakTree op j x = joinTree false op (singleton j) 0 x
 
-  -- a weak join is kept if it has fewer records than the split
-  abbrev pub fewest : Weak → Stage → Tree
-  fewest nowhere x = splitTree x
-  fewest (weakly op i) x =
-      let a : Tree = weakTree op i x in
-      let b : Tree = splitTree x in
+  -- a weak join is kept if it has fewer records than the split on condition i
+  abbrev pub fewest : Weak → ℕ → Stage → Tree
+  fewest nowhere i x = splitTree i x
+  fewest (weakly op j) i x =
+      let a : Tree = weakTree op j x in
+      let b : Tree = splitTree i x in
       cond (ltb (size a) (size b)) a b
 
+-- the tree of a stage
+module _ (how : Settings) (m : ℕ) (net : Bool → Stage → Tree) where
   abbrev pub choiceTree : Bool → Choice → Stage → Tree
-  choiceTree may split x = fewest (tried m may x) x
-  choiceTree may (joining op s t) x = joinTree true op s t x
+  choiceTree may split x = fewest m net (tried how m may x) (splitCondition (how .splits) (x .ks)) x
+  choiceTree may (joining op s t) x = joinTree m net true op s t x
 
   -- step 2, with no condition or one left; steps 3 to 6 with more
   abbrev pub leftTree : Bool → ℕ → Stage → Tree
   leftTree may zero x = fixed (at (x .limits .lower) 0)
   leftTree may (suc zero) x = lookup (lowest (x .ks)) (tabulate (card (x .ks) (lowest (x .ks))) (at (x .limits .lower)))
-  leftTree may (suc (suc n)) x = choiceTree may (chosen m x) x
+  leftTree may (suc (suc n)) x = choiceTree may (chosen how m x) x
 
 -- a stage that has lost a condition may take a weak join again
 abbrev pub mayLeft : Bool → Stage → Bool
@@ -213,17 +220,17 @@ abbrev pub rank : Bool → Stage → ℕ
 rank may x = 2 * width (x .ks) + pick may 1 0
 
 -- the tree of a stage of rank f at most
-abbrev pub stageTree : ℕ → ℕ → Bool → Stage → Tree
-stageTree m zero may x = fixed (at (x .limits .lower) 0)
-stageTree m (suc f) may x = let y = left x in leftTree m (stageTree m f) (mayLeft may x) (width (y .ks)) y
+abbrev pub stageTree : Settings → ℕ → ℕ → Bool → Stage → Tree
+stageTree how m zero may x = fixed (at (x .limits .lower) 0)
+stageTree how m (suc f) may x = let y = left x in leftTree how m (stageTree how m f) (mayLeft may x) (width (y .ks)) y
 
-abbrev pub treeOf : ℕ → Bool → Stage → Tree
-treeOf m may x = stageTree m (rank may x) may x
+abbrev pub treeOf : Settings → ℕ → Bool → Stage → Tree
+treeOf how m may x = stageTree how m (rank may x) may x
 
 -- the first stage of a table
 abbrev pub wholeTable : List ℕ → Limits → Stage
 wholeTable ks l = record { ks = ks; limits = l }
 
 -- the network of a table
-abbrev pub compiled : List ℕ → ℕ → Limits → Tree
-compiled ks m l = treeOf m true (wholeTable ks l)
+abbrev pub compiled : Settings → List ℕ → ℕ → Limits → Tree
+compiled how ks m l = treeOf how m true (wholeTable ks l)

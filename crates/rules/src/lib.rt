@@ -32,6 +32,23 @@ pub enum Outcome {
     Refused(Refusal),
 }
 
+// Request 8: the condition that a split takes.
+pub enum SplitOn {
+    // The one with the lowest number.
+    Lowest,
+    // The one with most values; the lowest number on a tie.
+    MostValues,
+}
+
+// Request 8: how a network is grown.
+pub struct Settings {
+    // The gate that wins a full tie in step 4.
+    pub tie: Gate,
+    pub splits: SplitOn,
+    // Whether weak joins are tried.
+    pub weak: bool,
+}
+
 // 01, Places where a call stops, and the requests after it: a case for each row. specs/Refusal.antt gives each its number.
 pub enum Refusal {
     // The table file's length.
