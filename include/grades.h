@@ -108,16 +108,20 @@ extern "C" {
 #define GRADES_MAX_FILE_RECORDS 1033
 #define GRADES_MAX_FILE_BYTES 16528
 
-/* The most records of a network, and of one that grades_compile writes. */
+/* The most records of a network, and of one that grades_compile or
+ * grades_compile_with writes. */
 #define GRADES_MAX_RECORDS 4096
 #define GRADES_MAX_COMPILED_RECORDS 3067
 
 /*
  * The bytes that a call asks for; one byte less is refused. For a table of
  * any shape take cells as GRADES_MAX_CELLS. The second uses cells twice.
- *   GRADES_COMPILE_WORK_BYTES     work of grades_compile and grades_forecast
- *   GRADES_COMPILE_NETWORK_BYTES  network of grades_compile
- *   GRADES_DEPTH_BYTES            depth of grades_forecast
+ *   GRADES_COMPILE_WORK_BYTES     work of grades_compile, grades_forecast,
+ *                                 grades_compile_with, grades_forecast_with
+ *   GRADES_COMPILE_NETWORK_BYTES  network of grades_compile and
+ *                                 grades_compile_with
+ *   GRADES_DEPTH_BYTES            depth of grades_forecast and
+ *                                 grades_forecast_with
  *   GRADES_RUN_WORK_BYTES         work of grades_check, grades_evaluate and
  *                                 grades_evaluate_each
  */
@@ -134,7 +138,8 @@ extern "C" {
  *   GRADES_READ_STACK_BYTES     grades_read, grades_to_sets, grades_from_sets
  *   GRADES_RUN_STACK_BYTES      grades_check and grades_evaluate
  *   GRADES_EACH_STACK_BYTES     grades_evaluate_each
- *   GRADES_COMPILE_STACK_BYTES  grades_compile and grades_forecast
+ *   GRADES_COMPILE_STACK_BYTES  grades_compile, grades_forecast,
+ *                               grades_compile_with, grades_forecast_with
  *   GRADES_JOIN_STACK_BYTES     each of the four joins
  */
 #define GRADES_READ_STACK_BYTES 1024
@@ -317,6 +322,58 @@ uint32_t grades_forecast(const uint8_t *shape, size_t shape_bytes,
                          const uint8_t *upper, size_t upper_bytes,
                          uint8_t *work, size_t work_bytes,
                          uint8_t *depth, size_t depth_bytes);
+
+/*
+ * The same two calls under settings for how a network is grown: one byte, with
+ * a bit for each habit that is not the usual one. Any of the bits may be set
+ * together. With 0 the calls are grades_compile and grades_forecast.
+ *
+ * A network is grown in stages, of which the first has the whole table
+ * (docs/RULES.md, "Stages", has every step). A stage drops the conditions that
+ * its limits can do without. With two or more left, it looks for two sets of
+ * them, like s and t above, that join by max, and for two that join by min. If
+ * either gate has found some, the stage joins. If neither has, it splits: it
+ * takes one condition, and grows a part for each of its values; or it joins
+ * weakly, where s is one condition and t is empty, if that is found to have
+ * fewer records. All of these start further stages. The settings hold in every
+ * stage:
+ *   GRADES_MIN_WINS_TIES   which gate wins a full tie: min; usual is max. Where
+ *                          both gates have found two sets, the stage joins by
+ *                          the one with more conditions in its sets; if they
+ *                          have as many, by the one whose sets differ less in
+ *                          size. If they differ as much too, it is a full tie.
+ *   GRADES_SPLITS_ON_MOST  which condition a split takes: of those that are
+ *                          left in its stage the one with most values, and of
+ *                          several such the one with the lowest number; usual
+ *                          is the lowest number of all that are left.
+ *   GRADES_NO_WEAK_JOINS   no weak join is tried: where neither gate has found
+ *                          two sets, the stage splits.
+ * Bits 3 to 7 are not looked at.
+ *
+ * Under any settings the network's grade is within the limits in every cell,
+ * and a forecast is that of the network which grades_compile_with writes under
+ * the same settings. Buffers are as for grades_compile and grades_forecast,
+ * with as many bytes. Both calls answer the number of records, 1 to
+ * GRADES_MAX_COMPILED_RECORDS. Refusals: SHAPE; BUFFER, for limits, work,
+ * network or depth; LIMITS. No settings are refused.
+ */
+#define GRADES_MIN_WINS_TIES 1u
+#define GRADES_SPLITS_ON_MOST 2u
+#define GRADES_NO_WEAK_JOINS 4u
+
+uint32_t grades_compile_with(const uint8_t *shape, size_t shape_bytes,
+                             const uint8_t *lower, size_t lower_bytes,
+                             const uint8_t *upper, size_t upper_bytes,
+                             uint8_t settings,
+                             uint8_t *work, size_t work_bytes,
+                             uint8_t *network, size_t network_bytes);
+
+uint32_t grades_forecast_with(const uint8_t *shape, size_t shape_bytes,
+                              const uint8_t *lower, size_t lower_bytes,
+                              const uint8_t *upper, size_t upper_bytes,
+                              uint8_t settings,
+                              uint8_t *work, size_t work_bytes,
+                              uint8_t *depth, size_t depth_bytes);
 
 /*
  * Checks a network, whoever made it, against a table's limits.

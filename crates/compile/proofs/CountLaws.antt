@@ -7,6 +7,7 @@ use native.Mathlib.Omega.{arith}
 use lib.ListN.{length}
 use Rattle.rules.specs.declared.Refusal.{Refusal}
 use Rattle.rules.specs.declared.Refusal.the-variants.{ShapeRange, ShortBuffer, GradeLimits}
+use Rattle.rules.specs.declared.Settings.{Settings}
 use Rattle.rules.specs.Cell.{cells}
 use Rattle.rules.specs.Shape.{places, shapeSound}
 use Rattle.rules.specs.Limits.{Limits, limitsSound}
@@ -33,17 +34,17 @@ was-refused (accepted rs) e = records-refused (sym e)
 was-refused (refused r) e = cc
 
 -- what is accepted is the table's records
-pub accepted-records : (n m lower upper work network : ℕ) (cards : List ℕ) (l : Limits) {rs : List Record} → compileCall n cards m lower upper work network l ≡ accepted rs
-    → compiledRecords (places cards) m l ≡ rs
-accepted-records n m lower upper work network cards l e =
+pub accepted-records : (how : Settings) (n m lower upper work network : ℕ) (cards : List ℕ) (l : Limits) {rs : List Record} → compileCall how n cards m lower upper work network l ≡ accepted rs
+    → compiledRecords how (places cards) m l ≡ rs
+accepted-records how n m lower upper work network cards l e =
     let a = row-passed (shapeSound n cards m) ShapeRange _ e in
     let b = row-passed (compileRoom (cells (places cards)) lower upper work network) ShortBuffer _ (a .1) in
     accepted-same (row-passed (limitsSound (places cards) m l) GradeLimits _ (b .1) .1)
 
-module _ {shape : Shape} {lower upper work network : List ℕ} {answer : CompileAnswer} {work′ network′ : List ℕ} (c : Compiles shape lower upper work network answer work′ network′) (n : ℕ)
+module _ {how : Settings} {shape : Shape} {lower upper work network : List ℕ} {answer : CompileAnswer} {work′ network′ : List ℕ} (c : Compiles how shape lower upper work network answer work′ network′) (n : ℕ)
     (e : answer ≡ Records n) where
   pub shape-sound : isSound shape ≡ true
-  shape-sound = row-passed (isSound shape) ShapeRange _ (was-accepted (compileRows shape lower upper work network) (sym e ∙ c .answers) .1) .0
+  shape-sound = row-passed (isSound shape) ShapeRange _ (was-accepted (compileRows how shape lower upper work network) (sym e ∙ c .answers) .1) .0
 
   pub few-records : n ≤ 3067
   few-records =

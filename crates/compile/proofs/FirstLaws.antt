@@ -8,6 +8,7 @@ use native.Mathlib.Omega.{arith}
 use lib.Dec.{T, leb, leb→le}
 use lib.ListN.{length, take, drop, length-append, length-drop}
 use lib.Seq.{length-take-le, getD-take, getD-drop, drop-append-seam, ext-getD}
+use Rattle.rules.specs.declared.Settings.{Settings}
 use Rattle.rules.specs.Bytes.{at}
 use Rattle.rules.specs.Cell.{cells}
 use Rattle.rules.specs.Limits.{Limits, limitsOf}
@@ -76,7 +77,7 @@ drop-same e w w′ l h =
     ext-getD 0 (drop e w′) (drop e w) (length-drop e w′ ∙ omega (arith, length-drop e w))
     (λ k lt. getD-drop e w′ k 0 ∙ h (e + k) (omega arith) ∙ sym (getD-drop e w k 0))
 
-module _ (shape : Shape) (lower upper work : List ℕ) (ok : Accepted shape lower upper (length work)) where
+module _ (how : Settings) (shape : Shape) (lower upper work : List ℕ) (ok : Accepted shape lower upper (length work)) where
   abbrev ks : List ℕ
   ks = placesOf shape
 
@@ -84,7 +85,7 @@ module _ (shape : Shape) (lower upper work : List ℕ) (ok : Accepted shape lowe
   l = lentLimits ks lower upper
 
   abbrev tree : Tree
-  tree = compiled ks (shape .m) l
+  tree = compiled how ks (shape .m) l
 
   rooms : Roomy (cells ks) (length lower) (length upper) (length work)
   rooms = roomy-means (cells ks) (length lower) (length upper) (length work) (passes (ok .room))
@@ -99,7 +100,7 @@ module _ (shape : Shape) (lower upper work : List ℕ) (ok : Accepted shape lowe
     lent-length : length (take (32 * cells ks) w) ≡ 32 * cells ks
     lent-length = length-take-le (32 * cells ks) w (let r = rooms .work-room in let e : length w ≡ length work = high .len ∙ low .len in omega arith)
 
-    starts : Starts (shape .m) ks (cells ks) false true (take (32 * cells ks) w) 0
+    starts : Starts how (shape .m) ks (cells ks) false true (take (32 * cells ks) w) 0
     starts =
         record {
           shaped = record { some = lent .positive; few = lent .few-cells };
@@ -110,15 +111,15 @@ module _ (shape : Shape) (lower upper work : List ℕ) (ok : Accepted shape lowe
           proper = subst (Proper (shape .m)) (sym same) (record { some = let g = lent .grades in omega arith; ordered = lent .ordered; top = lent .top });
           masks = λ e. absurd (subst T (sym e) tt);
           numbers =
-              subst (λ (x : Stage). Numbered (treeOf (shape .m) true x) 0) (sym same)
-              (let h = compiled-size ks (shape .m) l (lent .positive) in let g = lent .few-cells in omega arith);
+              subst (λ (x : Stage). Numbered (treeOf how (shape .m) true x) 0) (sym same)
+              (let h = compiled-size how ks (shape .m) l (lent .positive) in let g = lent .few-cells in omega arith);
         }
 
-    module _ {network : List ℕ} {e : Extent} {w′ net′ : List ℕ} (done : Written ks (treeOf (shape .m) true (stageAt ks (take (32 * cells ks) w) 0 (cells ks))) 0 false (take (32 * cells ks) w) network 0 e w′ net′) where
+    module _ {network : List ℕ} {e : Extent} {w′ net′ : List ℕ} (done : Written ks (treeOf how (shape .m) true (stageAt ks (take (32 * cells ks) w) 0 (cells ks))) 0 false (take (32 * cells ks) w) network 0 e w′ net′) where
       here : Written ks tree 0 false (take (32 * cells ks) w) network 0 e w′ net′
-      here = subst (λ (x : Stage). Written ks (treeOf (shape .m) true x) 0 false (take (32 * cells ks) w) network 0 e w′ net′) same done
+      here = subst (λ (x : Stage). Written ks (treeOf how (shape .m) true x) 0 false (take (32 * cells ks) w) network 0 e w′ net′) same done
 
-      recorded : Recorded shape lower upper work network e (w′ ++ drop (32 * cells ks) w) net′
+      recorded : Recorded how shape lower upper work network e (w′ ++ drop (32 * cells ks) w) net′
       recorded =
           let len : length w′ ≡ 32 * cells ks = here .len ∙ lent-length in
           let long : length w ≡ length work = high .len ∙ low .len in
@@ -138,12 +139,12 @@ module _ (shape : Shape) (lower upper work : List ℕ) (ok : Accepted shape lowe
           }
 
 -- the same for the number of cells and the places that the code reads off the shape
-module _ (shape : Shape) (lower upper work : List ℕ) (ok : Accepted shape lower upper (length work)) (n : ℕ) (count : n ≡ cells (placesOf shape)) where
+module _ (how : Settings) (shape : Shape) (lower upper work : List ℕ) (ok : Accepted shape lower upper (length work)) (n : ℕ) (count : n ≡ cells (placesOf shape)) where
   pub few : n ≤ 1024
-  few = let h = lent shape lower upper work ok .few-cells in omega arith
+  few = let h = lent how shape lower upper work ok .few-cells in omega arith
 
   pub rooms-by : (n ≤ length lower) × (n ≤ length upper) × (32 * n ≤ length work)
-  rooms-by = let r = rooms shape lower upper work ok in (let h = r .low in omega arith, let h = r .high in omega arith, let h = r .work-room in omega arith)
+  rooms-by = let r = rooms how shape lower upper work ok in (let h = r .low in omega arith, let h = r .high in omega arith, let h = r .work-room in omega arith)
 
   module _ {v w : List ℕ} (low : Laid work 0 (part lower 0 n) n v) (high : Laid v n (part upper 0 n) n w) (k : List ℕ) (places : k ≡ placesOf shape) where
     low-by : Laid work 0 (part lower 0 (cells (placesOf shape))) (cells (placesOf shape)) v
@@ -152,15 +153,15 @@ module _ (shape : Shape) (lower upper work : List ℕ) (ok : Accepted shape lowe
     high-by : Laid v (cells (placesOf shape)) (part upper 0 (cells (placesOf shape))) (cells (placesOf shape)) w
     high-by = subst (λ (i : ℕ). Laid v i (part upper 0 i) i w) count high
 
-    pub starts-by : Starts (shape .m) k n false true (take (32 * n) w) 0
+    pub starts-by : Starts how (shape .m) k n false true (take (32 * n) w) 0
     starts-by =
-        subst (λ (i : ℕ). Starts (shape .m) k i false true (take (32 * i) w) 0) (sym count)
-        (subst (λ (q : List ℕ). Starts (shape .m) q (cells (placesOf shape)) false true (take (32 * cells (placesOf shape)) w) 0) (sym places) (starts shape lower upper work ok low-by high-by))
+        subst (λ (i : ℕ). Starts how (shape .m) k i false true (take (32 * i) w) 0) (sym count)
+        (subst (λ (q : List ℕ). Starts how (shape .m) q (cells (placesOf shape)) false true (take (32 * cells (placesOf shape)) w) 0) (sym places) (starts how shape lower upper work ok low-by high-by))
 
-    pub recorded-by : {network : List ℕ} {e : Extent} {w′ net′ : List ℕ} → Written k (treeOf (shape .m) true (stageAt k (take (32 * n) w) 0 (cells k))) 0 false (take (32 * n) w) network 0 e w′ net′
-        → Recorded shape lower upper work network e (w′ ++ drop (32 * n) w) net′
+    pub recorded-by : {network : List ℕ} {e : Extent} {w′ net′ : List ℕ} → Written k (treeOf how (shape .m) true (stageAt k (take (32 * n) w) 0 (cells k))) 0 false (take (32 * n) w) network 0 e w′ net′
+        → Recorded how shape lower upper work network e (w′ ++ drop (32 * n) w) net′
     recorded-by {network} {e} {w′} {net′} y =
-        subst (λ (i : ℕ). Recorded shape lower upper work network e (w′ ++ drop (32 * i) w) net′) (sym count)
-        (recorded shape lower upper work ok low-by high-by
-        (subst (λ (i : ℕ). Written (placesOf shape) (treeOf (shape .m) true (stageAt (placesOf shape) (take (32 * i) w) 0 (cells (placesOf shape)))) 0 false (take (32 * i) w) network 0 e w′ net′) count
-        (subst (λ (q : List ℕ). Written q (treeOf (shape .m) true (stageAt q (take (32 * n) w) 0 (cells q))) 0 false (take (32 * n) w) network 0 e w′ net′) places y)))
+        subst (λ (i : ℕ). Recorded how shape lower upper work network e (w′ ++ drop (32 * i) w) net′) (sym count)
+        (recorded how shape lower upper work ok low-by high-by
+        (subst (λ (i : ℕ). Written (placesOf shape) (treeOf how (shape .m) true (stageAt (placesOf shape) (take (32 * i) w) 0 (cells (placesOf shape)))) 0 false (take (32 * i) w) network 0 e w′ net′) count
+        (subst (λ (q : List ℕ). Written q (treeOf how (shape .m) true (stageAt q (take (32 * n) w) 0 (cells q))) 0 false (take (32 * n) w) network 0 e w′ net′) places y)))

@@ -9,6 +9,8 @@ use lib.ListN.{length, take, drop}
 use lib.Seq.{take-at, getD-take}
 use Rattle.rules.specs.declared.Refusal.{Refusal}
 use Rattle.rules.specs.declared.Refusal.the-variants.{ShapeRange, GradeLimits, ShortBuffer}
+use Rattle.rules.specs.declared.Settings.{Settings}
+use Rattle.rules.specs.Settings.{usual}
 use Rattle.rules.specs.Bytes.{at, all}
 use Rattle.rules.specs.Cell.{cells}
 use Rattle.rules.specs.Limits.{Limits, limitsSound}
@@ -32,6 +34,7 @@ use Rattle.shape.specs.Shapes.{cardsOf, placesOf, isSound}
 use Rattle.shape.proofs.ShapeLaws.{eight-cards, sound-shape}
 use Rattle.stage_steps.specs.declared.gates.Extent.{Extent}
 use Rattle.compile.specs.declared.Judged.the-variants as judged
+use Rattle.compile.specs.declared.CompileAnswer.{CompileAnswer}
 use Rattle.compile.specs.declared.CompileAnswer.the-variants.{Records, Refused}
 use Rattle.compile.specs.Compiling.{compileAnswer, compileMeans, networkAfter, tableRows, compileRows, judgedAs, KeepsTable, Compiles, Accepted, Recorded}
 
@@ -64,10 +67,10 @@ most-is s c some h =
     pick-ok (λ (q : ℕ). s ≤ q) (eqb c 1) 1 (3 * c - 5) (λ t. let e = eqb→eq c 1 t in omega arith)
     (λ n. by-order c 1 (λ le. let e : 1 ≡ c = omega arith in absurd (n (subst (λ (k : ℕ). T (eqb k 1)) e tt))) (λ lt. omega arith))
 
-records-most : {ks : List ℕ} {m : ℕ} {l : Limits} → Table ks m l → length (compiledRecords ks m l) ≤ mostRecords (cells ks)
-records-most {ks} {m} {l} t =
-    let h = most-is (size (compiled ks m l)) (cells ks) (cells-pos ks (t .positive)) (compiled-size ks m l (t .positive)) in
-    let e = length-records (compiled ks m l) 0 in
+records-most : (how : Settings) {ks : List ℕ} {m : ℕ} {l : Limits} → Table ks m l → length (compiledRecords how ks m l) ≤ mostRecords (cells ks)
+records-most how {ks} {m} {l} t =
+    let h = most-is (size (compiled how ks m l)) (cells ks) (cells-pos ks (t .positive)) (compiled-size how ks m l (t .positive)) in
+    let e = length-records (compiled how ks m l) 0 in
     omega arith
 
 -- row 5 reads the limits of the table's cells only
@@ -92,10 +95,10 @@ module _ (shape : Shape) (lower upper : List ℕ) (work network : ℕ) where
   l = lentLimits ks lower upper
 
   abbrev rs : List Record
-  rs = compiledRecords ks (shape .m) l
+  rs = compiledRecords usual ks (shape .m) l
 
   rows-by : (a b c : Bool) → isSound shape ≡ a → compileRoom (cells ks) (length lower) (length upper) work network ≡ b → limitsSound ks (shape .m) l ≡ c
-      → tableRows shape lower upper work network ≡ unless a ShapeRange (unless b ShortBuffer (unless c GradeLimits (accepted rs)))
+      → tableRows usual shape lower upper work network ≡ unless a ShapeRange (unless b ShortBuffer (unless c GradeLimits (accepted rs)))
   rows-by a b c p q r = cc
 
   -- what the code reads off: n cells, and the tests' results
@@ -106,55 +109,77 @@ module _ (shape : Shape) (lower upper : List ℕ) (work network : ℕ) where
   limits-by e h = sym (limits-row ks lower upper (shape .m)) ∙ ap (λ (k : ℕ). all k (λ c. leb (at lower c) (at upper c) && ltb (at upper c) (shape .m))) (sym e) ∙ sym h
 
   -- each way out of the rows
-  pub shape-stop : isSound shape ≡ false → judged.Refused ShapeRange ≡ judgedAs (tableRows shape lower upper work network)
+  pub shape-stop : isSound shape ≡ false → judged.Refused ShapeRange ≡ judgedAs (tableRows usual shape lower upper work network)
   shape-stop a = sym (ap judgedAs (rows-by false _ _ a refl refl))
 
   pub room-stop : isSound shape ≡ true → compileRoom (cells ks) (length lower) (length upper) work network ≡ false
-      → judged.Refused ShortBuffer ≡ judgedAs (tableRows shape lower upper work network)
+      → judged.Refused ShortBuffer ≡ judgedAs (tableRows usual shape lower upper work network)
   room-stop a b = sym (ap judgedAs (rows-by true false _ a b refl))
 
   pub limits-stop : isSound shape ≡ true → compileRoom (cells ks) (length lower) (length upper) work network ≡ true → limitsSound ks (shape .m) l ≡ false
-      → judged.Refused GradeLimits ≡ judgedAs (tableRows shape lower upper work network)
+      → judged.Refused GradeLimits ≡ judgedAs (tableRows usual shape lower upper work network)
   limits-stop a b c = sym (ap judgedAs (rows-by true true false a b c))
 
   pub no-stop : isSound shape ≡ true → compileRoom (cells ks) (length lower) (length upper) work network ≡ true → limitsSound ks (shape .m) l ≡ true
-      → judged.Sound ≡ judgedAs (tableRows shape lower upper work network)
+      → judged.Sound ≡ judgedAs (tableRows usual shape lower upper work network)
   no-stop a b c = sym (ap judgedAs (rows-by true true true a b c))
 
   -- a table that no row stops
   pub record Passed : Type 0 where
     pub table : Accepted shape lower upper work
     pub network-room : 16 * mostRecords (cells ks) ≤ network
-    pub rows : tableRows shape lower upper work network ≡ accepted rs
+    pub rows : (how : Settings) → tableRows how shape lower upper work network ≡ accepted (compiledRecords how ks (shape .m) l)
 
-  pub sound-passes : judged.Sound ≡ judgedAs (tableRows shape lower upper work network) → Passed
+  pub sound-passes : judged.Sound ≡ judgedAs (tableRows usual shape lower upper work network) → Passed
   sound-passes e =
-      let v = was-sound (tableRows shape lower upper work network) e in
+      let v = was-sound (tableRows usual shape lower upper work network) e in
       let a = row-passed (isSound shape) ShapeRange _ (v .1) in
       let b = row-passed (compileRoom (cells ks) (length lower) (length upper) work network) ShortBuffer _ (a .1) in
       let c = row-passed (limitsSound ks (shape .m) l) GradeLimits _ (b .1) in
       record {
         table = record { shape-sound = a .0; room = passed (tableRoom (cells ks) (length lower) (length upper) work) (and-l (tableRoom (cells ks) (length lower) (length upper) work) _ (passes (b .0))); limits-sound = c .0 };
         network-room = leb→le _ network (and-r (tableRoom (cells ks) (length lower) (length upper) work) _ (passes (b .0)));
-        rows = rows-by true true true (a .0) (b .0) (c .0);
+        rows = λ how. let p = a .0 in let q = b .0 in let r = c .0 in cc;
       }
+
+-- settings change no row
+pub judged-same : (a b : Settings) (shape : Shape) (lower upper : List ℕ) (work network : ℕ)
+    → judgedAs (tableRows a shape lower upper work network) ≡ judgedAs (tableRows b shape lower upper work network)
+judged-same a b shape lower upper work network =
+    go (isSound shape) (compileRoom (cells (placesOf shape)) (length lower) (length upper) work network) (limitsSound (placesOf shape) (shape .m) (lentLimits (placesOf shape) lower upper)) _ _
+  where
+    go : (p q r : Bool) (x y : List Record)
+        → judgedAs (unless p ShapeRange (unless q ShortBuffer (unless r GradeLimits (accepted x)))) ≡ judgedAs (unless p ShapeRange (unless q ShortBuffer (unless r GradeLimits (accepted y))))
+    go false q r x y = refl
+    go true false r x y = refl
+    go true true false x y = refl
+    go true true true x y = refl
+
+-- settings that are known
+pub compiles-as : {a b : Settings} {shape : Shape} {lower upper work network : List ℕ} {answer : CompileAnswer} {work′ network′ : List ℕ} → a ≡ b
+    → Compiles a shape lower upper work network answer work′ network′ → Compiles b shape lower upper work network answer work′ network′
+compiles-as {shape = shape} {lower} {upper} {work} {network} {answer} {work′} {network′} e c = subst (λ (how : Settings). Compiles how shape lower upper work network answer work′ network′) e c
+
+pub recorded-as : {a b : Settings} {shape : Shape} {lower upper work network : List ℕ} {of : Extent} {work′ network′ : List ℕ} → a ≡ b
+    → Recorded a shape lower upper work network of work′ network′ → Recorded b shape lower upper work network of work′ network′
+recorded-as {shape = shape} {lower} {upper} {work} {network} {of} {work′} {network′} e c = subst (λ (how : Settings). Recorded how shape lower upper work network of work′ network′) e c
 
 -- that table
 pub table : (shape : Shape) (lower upper : List ℕ) {work : ℕ} → Accepted shape lower upper work → Table (placesOf shape) (shape .m) (lentLimits (placesOf shape) lower upper)
 table shape lower upper ok =
     accepted-table (shape .n) (cardsOf shape) (shape .m) (eight-cards shape) (passes (ok .shape-sound)) (lentLimits (placesOf shape) lower upper) (passes (ok .limits-sound))
 
-module _ (shape : Shape) (lower upper work network : List ℕ) where
+module _ (how : Settings) (shape : Shape) (lower upper work network : List ℕ) where
   abbrev rows : Verdict (List Record)
-  rows = compileRows shape lower upper work network
+  rows = compileRows how shape lower upper work network
 
   abbrev records : List Record
-  records = compiledRecords (placesOf shape) (shape .m) (lentLimits (placesOf shape) lower upper)
+  records = compiledRecords how (placesOf shape) (shape .m) (lentLimits (placesOf shape) lower upper)
 
   -- a refusal
-  pub stops : {r : Refusal} → judged.Refused r ≡ judgedAs rows → Compiles shape lower upper work network (Refused r) work network
+  pub stops : {r : Refusal} → judged.Refused r ≡ judgedAs (compileRows usual shape lower upper work network) → Compiles how shape lower upper work network (Refused r) work network
   stops {r} h =
-      let e : rows ≡ refused r = was-unsound rows h in
+      let e : rows ≡ refused r = was-unsound rows (h ∙ judged-same usual how shape lower upper (length work) (length network)) in
       record {
         answers = sym (ap compileAnswer e);
         means = ap compileMeans (sym (ap compileAnswer e)) ∙ compile-means rows;
@@ -165,21 +190,21 @@ module _ (shape : Shape) (lower upper work network : List ℕ) where
       }
 
   -- records
-  module _ (ok : Passed shape lower upper (length work) (length network)) {of : Extent} {work′ network′ : List ℕ} (w : Recorded shape lower upper work network of work′ network′) where
+  module _ (ok : Passed shape lower upper (length work) (length network)) {of : Extent} {work′ network′ : List ℕ} (w : Recorded how shape lower upper work network of work′ network′) where
     given : Table (placesOf shape) (shape .m) (lentLimits (placesOf shape) lower upper)
     given = table shape lower upper (ok .table)
 
     bytes : network′ ≡ networkAfter (accepted records) network
-    bytes = w .bytes (let r = ok .network-room in let f = records-most given in omega arith)
+    bytes = w .bytes (let r = ok .network-room in let f = records-most how given in omega arith)
 
     front : take (16 * of .next) network′ ≡ networkBytes records
     front =
         ap (take (16 * of .next)) bytes
         ∙ take-at (networkBytes records) (drop (16 * length records) network) (16 * of .next) (length-networkBytes records ∙ ap (λ (k : ℕ). 16 * k) (sym (w .count)))
 
-    table-kept : KeepsTable shape lower upper (of .next) network′
+    table-kept : KeepsTable how shape lower upper (of .next) network′
     table-kept =
-        let d = compiled-all (placesOf shape) (shape .m) (lentLimits (placesOf shape) lower upper) given in
+        let d = compiled-all how (placesOf shape) (shape .m) (lentLimits (placesOf shape) lower upper) given in
         record {
           compiled = d;
           bytes = front;
@@ -193,14 +218,14 @@ module _ (shape : Shape) (lower upper work network : List ℕ) where
           stages = d .stages;
         }
 
-    pub writes : Compiles shape lower upper work network (Records (of .next)) work′ network′
+    pub writes : Compiles how shape lower upper work network (Records (of .next)) work′ network′
     writes =
-        let answer : Records (of .next) ≡ compileAnswer rows = ap Records (w .count) ∙ sym (ap compileAnswer (ok .rows)) in
+        let answer : Records (of .next) ≡ compileAnswer rows = ap Records (w .count) ∙ sym (ap compileAnswer (ok .rows how)) in
         record {
           answers = answer;
           means = ap compileMeans answer ∙ compile-means rows;
-          network-after = bytes ∙ sym (ap (λ (v : Verdict (List Record)). networkAfter v network) (ok .rows));
+          network-after = bytes ∙ sym (ap (λ (v : Verdict (List Record)). networkAfter v network) (ok .rows how));
           refusal-keeps = λ q h. records-refused h;
           kept = w .kept;
-          keeps-table = λ k h. subst (λ (j : ℕ). KeepsTable shape lower upper j network′) (records-same h) table-kept;
+          keeps-table = λ k h. subst (λ (j : ℕ). KeepsTable how shape lower upper j network′) (records-same h) table-kept;
         }

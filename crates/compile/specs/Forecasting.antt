@@ -4,6 +4,7 @@ use mathlib.Core.Path.{_≡_}
 use mathlib.Core.List.{List, [], _∷_}
 use lib.ListN.{length}
 use Rattle.rules.specs.declared.Refusal.{Refusal}
+use Rattle.rules.specs.declared.Settings.{Settings}
 use Rattle.rules.specs.Bytes.{Past}
 use Rattle.rules.specs.Cell.{cells}
 use Rattle.rules.specs.Verdict.{Verdict, accepted, refused, Answer, granted, denied, answerOf}
@@ -27,14 +28,14 @@ abbrev pub forecastMeans : ForecastAnswer → Answer
 forecastMeans (Figures records depth) = granted (records ∷ depth ∷ [])
 forecastMeans (Refused r) = denied r
 
-module _ (shape : Shape) (lower upper : List ℕ) where
+module _ (how : Settings) (shape : Shape) (lower upper : List ℕ) where
   -- the rows of a forecast
   abbrev pub forecastRows : List ℕ → Verdict Forecast
-  forecastRows work = forecastCall (shape .n) (cardsOf shape) (shape .m) (length lower) (length upper) (length work) (lentLimits (placesOf shape) lower upper)
+  forecastRows work = forecastCall how (shape .n) (cardsOf shape) (shape .m) (length lower) (length upper) (length work) (lentLimits (placesOf shape) lower upper)
 
   -- both figures are those of the network that any compile of the same table has written, as its bytes are read
   abbrev pub Foretells : ℕ → ℕ → Type 0
-  Foretells records depth = (work network work′ network′ : List ℕ) (n : ℕ) → Compiles shape lower upper work network (Records n) work′ network′
+  Foretells records depth = (work network work′ network′ : List ℕ) (n : ℕ) → Compiles how shape lower upper work network (Records n) work′ network′
       → (records ≡ n) × (depth ≡ networkDepth (networkRecords (placesOf shape) (written n network′)))
 
   -- the answer by the rows, for every shape and all buffers: beside a compile of the same table whose network buffer is long enough, a refusal
@@ -43,7 +44,7 @@ module _ (shape : Shape) (lower upper : List ℕ) where
   pub record Forecasts (work : List ℕ) (answer : ForecastAnswer) (work′ : List ℕ) : Type 0 where
     pub answers : answer ≡ forecastAnswer (forecastRows work)
     pub means : forecastMeans answer ≡ answerOf (λ f. f .count ∷ f .depth ∷ []) (forecastRows work)
-    pub stops : Foretold (shape .n) (cardsOf shape) (shape .m) (length lower) (length upper) (length work) (lentLimits (placesOf shape) lower upper)
+    pub stops : Foretold how (shape .n) (cardsOf shape) (shape .m) (length lower) (length upper) (length work) (lentLimits (placesOf shape) lower upper)
     pub foretells : (records depth : ℕ) → answer ≡ Figures records depth → Foretells records depth
     pub refusal-keeps : (r : Refusal) → answer ≡ Refused r → work′ ≡ work
     pub kept : Past (compileWork (cells (placesOf shape))) work work′

@@ -3,7 +3,8 @@
 // or the refusal's number; then whether each buffer kept the bytes that the call had to leave: all
 // of them after a refusal, else those past the records and, of the work buffer, those past sixteen
 // for each cell. Both buffers hold 99 everywhere before. Behind that, what a forecast of the same table
-// says, with the same work buffer and no network buffer.
+// says, with the same work buffer and no network buffer. Last, tables under settings other than the usual, by their
+// byte.
 use compile::CompileAnswer;
 use compile::ForecastAnswer;
 use printing::number;
@@ -75,9 +76,9 @@ fn show_answer(answer: CompileAnswer, shape: Shape, work: &[u8], network: &[u8])
     }
 }
 
-fn show_forecast(shape: Shape, lower: &[u8], upper: &[u8], work: &mut [u8]) {
+fn show_forecast(answer: ForecastAnswer, shape: Shape, work: &[u8]) {
     text(b"; forecast ");
-    match compile::forecast(shape, lower, upper, work) {
+    match answer {
         ForecastAnswer::Refused(refusal) => {
             refused(refusal);
             show_kept(b", work", work, 0, true);
@@ -104,7 +105,8 @@ fn compile_into(
     text(b": ");
     let answer = compile::compile(shape, lower, upper, work, network);
     show_answer(answer, shape, work, network);
-    show_forecast(shape, lower, upper, work);
+    let forecast = compile::forecast(shape, lower, upper, work);
+    show_forecast(forecast, shape, work);
     text(b"\n");
 }
 
@@ -318,6 +320,73 @@ fn weak_joins() {
     );
 }
 
+// Under the settings of a byte, in buffers that are as long as the largest table needs.
+fn under(name: &[u8], byte: u8, shape: Shape, lower: &[u8], upper: &[u8]) {
+    let mut work = [99u8; 32768];
+    let mut network = [99u8; 49072];
+    let how = settings::of_byte(byte);
+    text(name);
+    show_number(b", settings ", byte as usize);
+    text(b": ");
+    let answer = compile::compile_with(shape, lower, upper, how, &mut work, &mut network);
+    show_answer(answer, shape, &work, &network);
+    let forecast = compile::forecast_with(shape, lower, upper, how, &mut work);
+    show_forecast(forecast, shape, &work);
+    text(b"\n");
+}
+
+// A table whose gates tie.
+fn tied(byte: u8) {
+    under(
+        b"full tie",
+        byte,
+        shape_of(2, [2, 2, 0, 0], 3),
+        &[0, 0, 1, 2],
+        &[0, 2, 1, 2],
+    );
+}
+
+// A table that splits, and whose lowest condition is not the one with most values.
+fn divided(byte: u8) {
+    under(
+        b"2 and 3 values",
+        byte,
+        shape_of(2, [2, 3, 0, 0], 2),
+        &[0, 0, 0, 1, 1, 0],
+        &[0, 0, 0, 1, 1, 0],
+    );
+}
+
+// A table that joins weakly.
+fn weakly(byte: u8) {
+    under(
+        b"weak at condition 0",
+        byte,
+        shape_of(2, [2, 2, 0, 0], 3),
+        &[0, 1, 1, 2],
+        &[0, 1, 1, 2],
+    );
+}
+
+fn all_settings() {
+    tied(0);
+    tied(1);
+    divided(0);
+    divided(2);
+    weakly(0);
+    weakly(4);
+    tied(248);
+    divided(255);
+    weakly(251);
+    under(
+        b"lower above upper",
+        7,
+        shape_of(2, [2, 2, 0, 0], 2),
+        &EITHER,
+        &E,
+    );
+}
+
 fn main() {
     small();
     parities();
@@ -325,4 +394,5 @@ fn main() {
     largest();
     refusals();
     orders();
+    all_settings();
 }

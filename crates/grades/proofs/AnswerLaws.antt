@@ -16,6 +16,7 @@ use Rattle.rules.specs.Shape.{places}
 use Rattle.rules.specs.Limits.{Limits}
 use Rattle.rules.specs.Verdict.{Verdict, accepted, refused, unless, andThen}
 use Rattle.rules.specs.Network.{Record, recordsFrom, networkBytes}
+use Rattle.rules.specs.Settings.{usual}
 use Rattle.rules.specs.Demands.{compiledRecords}
 use Rattle.rules.specs.CompileCall.{mostRecords, lentLimits, compileCall}
 use Rattle.rules.specs.TableFile.{Seen, judgeFile, judgeReading, fileLimits}
@@ -42,7 +43,7 @@ use Rattle.compile.proofs.CountLaws.{was-accepted, accepted-records}
 use Rattle.grades.specs.Answering.{tableRows}
 
 -- a compile's answer
-module _ {shape : Shape} {lower upper work network : List ℕ} {a : CompileAnswer} {work′ network′ : List ℕ} (c : Compiles shape lower upper work network a work′ network′)
+module _ {shape : Shape} {lower upper work network : List ℕ} {a : CompileAnswer} {work′ network′ : List ℕ} (c : Compiles usual shape lower upper work network a work′ network′)
     (p : length work ≡ 32768) (q : length network ≡ 49072) where
   abbrev ks : List ℕ
   ks = placesOf shape
@@ -51,10 +52,10 @@ module _ {shape : Shape} {lower upper work network : List ℕ} {a : CompileAnswe
   l = lentLimits ks lower upper
 
   abbrev rs : List Record
-  rs = compiledRecords ks (shape .m) l
+  rs = compiledRecords usual ks (shape .m) l
 
-  same : compileRows shape lower upper work network ≡ tableRows shape lower upper
-  same = ap₂ (λ (w n : ℕ). compileCall (shape .n) (cardsOf shape) (shape .m) (length lower) (length upper) w n l) p q
+  same : compileRows usual shape lower upper work network ≡ tableRows shape lower upper
+  same = ap₂ (λ (w n : ℕ). compileCall usual (shape .n) (cardsOf shape) (shape .m) (length lower) (length upper) w n l) p q
 
   answers : a ≡ compileAnswer (tableRows shape lower upper)
   answers = c .answers ∙ ap compileAnswer same
@@ -65,7 +66,7 @@ module _ {shape : Shape} {lower upper work network : List ℕ} {a : CompileAnswe
   pub listing-printed : (n : ℕ) → a ≡ Records n → listing (recordsFrom ks network′ 0 n) ≡ printed (tableRows shape lower upper)
   listing-printed n e =
       let made = was-accepted (tableRows shape lower upper) (sym e ∙ answers) in
-      let is : rs ≡ made .0 = accepted-records (shape .n) (shape .m) (length lower) (length upper) 32768 49072 (cardsOf shape) l (made .1) in
+      let is : rs ≡ made .0 = accepted-records usual (shape .n) (shape .m) (length lower) (length upper) 32768 49072 (cardsOf shape) l (made .1) in
       let whole : tableRows shape lower upper ≡ accepted rs = made .1 ∙ ap accepted (sym is) in
       let counted : n ≡ length rs = made .2 ∙ ap length (sym is) in
       let bytes : network′ ≡ networkBytes rs ++ drop (16 * length rs) network = c .network-after ∙ ap (λ (v : Verdict (List Record)). networkAfter v network) (same ∙ whole) in
@@ -92,7 +93,7 @@ module _ {file lower upper : List ℕ} {a : TableAnswer} {lower′ upper′ : Li
   verdict = ap₂ (judgeReading file) e f ∙ with-room (judgeFile Ours file) refl
 
   abbrev network-of : Seen → List Record
-  network-of s = compiledRecords (places (s .cards)) (s .m) (fileLimits file s)
+  network-of s = compiledRecords usual (places (s .cards)) (s .m) (fileLimits file s)
 
   abbrev after : Verdict Seen → Verdict (List Record)
   after v = andThen v (λ s. accepted (network-of s))
@@ -106,7 +107,7 @@ module _ {file lower upper : List ℕ} {a : TableAnswer} {lower′ upper′ : Li
       let few = whole .kept .few in
       let some = cells-pos (places (s .cards)) (places-positive (s .cards)) in
       table-compiles file s whole lower upper lower′ upper′
-      (r .lower-after ∙ ap (λ (v : Verdict Seen). lowerAfter file v lower) (verdict ∙ own)) (r .upper-after ∙ ap (λ (v : Verdict Seen). upperAfter file v upper) (verdict ∙ own)) 32768 49072
+      (r .lower-after ∙ ap (λ (v : Verdict Seen). lowerAfter file v lower) (verdict ∙ own)) (r .upper-after ∙ ap (λ (v : Verdict Seen). upperAfter file v upper) (verdict ∙ own)) usual 32768 49072
       (omega arith) (let most = few-most (cells (places (s .cards))) some few in omega arith)
 
   pub file-listed : (shape : Shape) → a ≡ table.Table shape → printed (tableRows shape lower′ upper′) ≡ answerTo file

@@ -3,10 +3,12 @@
 pub mod growing;
 pub mod joins;
 
+use rules::Gate;
 use rules::PLACES;
 ghost use Prim.Native.Nat.{_+_};
 ghost use mathlib.Core.Path.{_≡_};
 ghost use Rattle.rules.specs.Cell.{cells};
+ghost use Rattle.rules.specs.Settings.{lessOrTie};
 ghost use Rattle.rules.specs.Stage.{difference, keepsMax};
 ghost use Rattle.grouping.specs.Joining.{joinsAt};
 ghost use Rattle.grouping.specs.Growing.{Space, First, Grouped};
@@ -46,17 +48,27 @@ fn difference(a: usize, b: usize) -> usize
     if a < b { b - a } else { a - b }
 }
 
+// Whether max's number is less than min's, or equal and max wins ties.
+fn less_or_tie(tie: Gate, a: usize, b: usize) -> bool
+    ensures { λ r. ⌜ r ≡ lessOrTie tie a b ⌝ }
+{
+    match tie {
+        Gate::Max => a <= b,
+        Gate::Min => a < b,
+    }
+}
+
 // Whether the max grouping is taken before the min grouping: more conditions, then the smaller
-// difference, then max.
-pub fn keeps_max(max: Sets, min: Sets) -> bool
-    ensures { λ r. ⌜ r ≡ keepsMax (max .s) (max .t) (min .s) (min .t) ⌝ }
+// difference, then the gate that wins ties.
+pub fn keeps_max(tie: Gate, max: Sets, min: Sets) -> bool
+    ensures { λ r. ⌜ r ≡ keepsMax tie (max .s) (max .t) (min .s) (min .t) ⌝ }
 {
     let s = places::sets::count(max.s);
     let t = places::sets::count(max.t);
     let u = places::sets::count(min.s);
     let v = places::sets::count(min.t);
     if s + t == u + v {
-        return difference(s, t) <= difference(u, v);
+        return less_or_tie(tie, difference(s, t), difference(u, v));
     }
     u + v < s + t
 }

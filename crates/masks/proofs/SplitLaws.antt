@@ -13,6 +13,7 @@ use Rattle.rules.specs.Limits.{Limits}
 use Rattle.rules.specs.Join.{joinExists}
 use Rattle.rules.specs.Stage.{Stage, none, left, groups, split, choose, chosen}
 use Rattle.rules.specs.declared.Gate.{Gate}
+use Rattle.rules.specs.declared.Settings.{Settings}
 use Rattle.rules.specs.declared.Gate.the-variants.{Min, Max}
 use Rattle.laws.proofs.TestLaws.{passed, and-l, and-r}
 use Rattle.laws.proofs.TableLaws.{all-at, all-false, all-fails}
@@ -91,10 +92,10 @@ module _ (ks : List ℕ) (m : ℕ) (l : Limits) where
     seen-left t s b u e = refused-left t b (λ i p. no-one-seen u i (full-from ks s few e i p))
 
     -- for each gate a mask has all of them: none drops, and the stage splits
-    pub full-split : (t t′ : List ℕ) → Masked Max ks m l t → Masked Min ks m l t′ → someFull (cells ks) t (lowest ks) ≡ true
-        → someFull (cells ks) t′ (lowest ks) ≡ true → (left x ≡ x) × (chosen m x ≡ split)
-    full-split t t′ b b′ e e′ =
+    pub full-split : (how : Settings) (t t′ : List ℕ) → Masked Max ks m l t → Masked Min ks m l t′ → someFull (cells ks) t (lowest ks) ≡ true
+        → someFull (cells ks) t′ (lowest ks) ≡ true → (left x ≡ x) × (chosen how m x ≡ split)
+    full-split how t t′ b b′ e e′ =
         some-full ks (cells ks) t few e
         (λ c h f.
         some-full ks (cells ks) t′ few e′
-        (λ c′ h′ f′. (full-left t c h f b, ap₂ choose (full-groups t c h f Max b) (full-groups t′ c′ h′ f′ Min b′))))
+        (λ c′ h′ f′. (full-left t c h f b, ap₂ (choose (how .tie)) (full-groups t c h f Max b) (full-groups t′ c′ h′ f′ Min b′))))

@@ -32,6 +32,10 @@ pub record Bits (ks : List ℕ) (p : ℕ → ℕ → Bool) (t : List ℕ) : Type
 abbrev pub Masked : Gate → List ℕ → ℕ → Limits → List ℕ → Type 0
 Masked op ks m l t = Bits ks (refuses op ks m l) t
 
+-- n masks have what others have, but for condition i
+pub record Beside (i n : ℕ) (t t′ : List ℕ) : Type 0 where
+  pub bit : (c j : ℕ) → c < n → (j ≡ i → ⊥) → has (at t′ c) j ≡ has (at t c) j
+
 -- the part that a gate's masks stand in, in parts of n bytes
 abbrev pub maskPart : Gate → ℕ → ℕ
 maskPart Max n = 2 * n

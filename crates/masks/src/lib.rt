@@ -3,12 +3,15 @@
 // Whether conditions drop or join is read off the masks, and those of a stage serve the stages that a split starts.
 pub mod tests;
 
+use places::sets;
 use rules::PLACES;
-ghost use Prim.Native.Nat.{_+_, _≤_};
+ghost use Prim.Native.Nat.{_+_, _≤_, _<_};
 ghost use mathlib.Core.Path.{_≡_};
 ghost use lib.ListN.{length};
-ghost use Rattle.rules.specs.Cell.{cells};
-ghost use Rattle.tables.specs.Part.{part};
+ghost use lib.Bits.{bitOr};
+ghost use Rattle.rules.specs.Bytes.{at, tabulate};
+ghost use Rattle.rules.specs.Cell.{cells, singleton};
+ghost use Rattle.tables.specs.Part.{part, Laid};
 ghost use Rattle.masks.specs.Searching.{Searched};
 
 // The first two conditions that join.
@@ -37,4 +40,16 @@ pub fn first_pair(w: &[u8], ks: [u8; PLACES], a: usize, n: usize) -> Pair
         }
     }
     found
+}
+
+// Adds a condition to the n masks at a. Where it is not there, its bit says nothing, and with it a mask that refuses
+// all conditions is full.
+pub fn add(w: &mut [u8], a: usize, n: usize, i: usize)
+    requires { ⌜ (i < 8) × (a + n ≤ length (now w)) ⌝ }
+    ensures { λ _. ⌜ Laid (now (w .entry)) a (tabulate n (λ x. bitOr (at (part (now (w .entry)) a n) x) (singleton i))) n (now (w .exit)) ⌝ }
+{
+    let bit = sets::singleton(i);
+    for x in 0..n {
+        w[a + x] = w[a + x] | bit;
+    }
 }

@@ -1,2 +1,3 @@
 -- What several proofs use.
 pub mod MoveLaws
+pub mod RowLaws

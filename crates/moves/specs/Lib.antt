@@ -1,2 +1,3 @@
 -- What the contracts of `moves` cite.
 pub mod Move
+pub mod Row

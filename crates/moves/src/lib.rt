@@ -10,6 +10,7 @@ ghost use Rattle.rules.specs.Cell.{cells, step, moved};
 ghost use Rattle.tables.specs.Part.{part, Laid, Apart, Shaped};
 ghost use Rattle.tables.specs.Line.{Spread};
 ghost use Rattle.moves.specs.Move.{remapFrom, Runs, together, room, Moving};
+ghost use Rattle.moves.specs.Row.{inRow, Rows};
 
 // A table over the places b is made from one over a in runs. A run is the cells that differ in the lowest places
 // only: how many places those are, the cells that they have in b, and those that they have in a.
@@ -191,5 +192,24 @@ pub fn uncofactor(w: &mut [u8], from: usize, to: usize, n: usize, card: usize, k
 {
     for c in 0..n {
         w[to + k + card * c] = w[from + c];
+    }
+}
+
+// The cells where another condition is k, of this step and cardinality: row by row.
+pub fn cofactor_rows(
+    w: &mut [u8],
+    from: usize,
+    to: usize,
+    n: usize,
+    step: usize,
+    card: usize,
+    k: usize,
+)
+    requires { ⌜ (k < card) × Rows step n × Apart (now w) from (card * n) to n ⌝ }
+    ensures { λ _. ⌜ Laid (now (w .entry)) to (tabulate n (λ c. at (part (now (w .entry)) from (card * n)) (inRow step card k c))) n (now (w .exit)) ⌝ }
+{
+    let count = n / step;
+    for r in 0..count {
+        fill::copy(w, from + step * (k + card * r), to + step * r, step);
     }
 }

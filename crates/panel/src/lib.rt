@@ -7,6 +7,8 @@ ghost use Rattle.panel_networks.specs.EvaluatesEach.{EvaluatesEach};
 ghost use Rattle.panel_reads.specs.Reads.{Reads};
 ghost use Rattle.panel_editions.specs.Converts.{Converts};
 ghost use Rattle.panel_joins.specs.Joins.{JoinsFirst, JoinsSecond};
+ghost use Rattle.rules.specs.Settings.{usual};
+ghost use Rattle.rules.specs.Settings.{settingsOf};
 ghost use Rattle.panel_networks.specs.Compiles.{Compiles};
 ghost use Rattle.panel_networks.specs.Forecasts.{Forecasts};
 ghost use Rattle.panel_networks.specs.Checks.{Checks};
@@ -161,9 +163,25 @@ pub extern "C" fn grades_compile(
     work: &mut [u8],
     network: &mut [u8],
 ) -> u32
-    ensures { λ r. ⌜ Compiles (now (shape .entry)) (now (lower .entry)) (now (upper .entry)) (now (work .entry)) (now (network .entry)) r (now (work .exit)) (now (network .exit)) ⌝ }
+    ensures { λ r. ⌜ Compiles usual (now (shape .entry)) (now (lower .entry)) (now (upper .entry)) (now (work .entry)) (now (network .entry)) r (now (work .exit)) (now (network .exit)) ⌝ }
 {
     panel_networks::compile(shape, lower, upper, work, network)
+}
+
+// The same under settings, as a byte: bit 0, min wins ties; bit 1, a split takes the condition with most values; bit 2,
+// no weak joins are tried. The other bits are not looked at.
+#[no_mangle]
+pub extern "C" fn grades_compile_with(
+    shape: &[u8],
+    lower: &[u8],
+    upper: &[u8],
+    settings: u8,
+    work: &mut [u8],
+    network: &mut [u8],
+) -> u32
+    ensures { λ r. ⌜ Compiles (settingsOf settings) (now (shape .entry)) (now (lower .entry)) (now (upper .entry)) (now (work .entry)) (now (network .entry)) r (now (work .exit)) (now (network .exit)) ⌝ }
+{
+    panel_networks::compile_with(shape, lower, upper, settings, work, network)
 }
 
 // What the network of a table will have: how many records, and in two bytes, low first, the depth of gates under
@@ -176,9 +194,24 @@ pub extern "C" fn grades_forecast(
     work: &mut [u8],
     depth: &mut [u8],
 ) -> u32
-    ensures { λ r. ⌜ Forecasts (now (shape .entry)) (now (lower .entry)) (now (upper .entry)) (now (work .entry)) (now (depth .entry)) r (now (work .exit)) (now (depth .exit)) ⌝ }
+    ensures { λ r. ⌜ Forecasts usual (now (shape .entry)) (now (lower .entry)) (now (upper .entry)) (now (work .entry)) (now (depth .entry)) r (now (work .exit)) (now (depth .exit)) ⌝ }
 {
     panel_networks::forecast(shape, lower, upper, work, depth)
+}
+
+// The same under settings, as a byte.
+#[no_mangle]
+pub extern "C" fn grades_forecast_with(
+    shape: &[u8],
+    lower: &[u8],
+    upper: &[u8],
+    settings: u8,
+    work: &mut [u8],
+    depth: &mut [u8],
+) -> u32
+    ensures { λ r. ⌜ Forecasts (settingsOf settings) (now (shape .entry)) (now (lower .entry)) (now (upper .entry)) (now (work .entry)) (now (depth .entry)) r (now (work .exit)) (now (depth .exit)) ⌝ }
+{
+    panel_networks::forecast_with(shape, lower, upper, settings, work, depth)
 }
 
 // Whether a network keeps within a table's limits: 0, or a number for the first cell outside and

@@ -5,6 +5,7 @@ use mathlib.Core.List.{List}
 use native.Mathlib.Omega.{arith}
 use lib.ListN.{length}
 use Rattle.rules.specs.declared.Refusal.{Refusal}
+use Rattle.rules.specs.declared.Settings.{Settings}
 use Rattle.rules.specs.Refusal.{refusalNumber}
 use Rattle.rules.specs.Network.{Record}
 use Rattle.rules.specs.Verdict.{Verdict, accepted, refused}
@@ -34,28 +35,28 @@ is-count : (a : CompileAnswer) → compileNumber a < 65536 → a ≡ Records (co
 is-count (Records n) h = refl
 is-count (Refused q) h = absurd (omega arith)
 
-pub few : {shape : Shape} {lower upper work network : List ℕ} {a : CompileAnswer} {work′ network′ : List ℕ} → compiling.Compiles shape lower upper work network a work′ network′ → FewRecords a
+pub few : {how : Settings} {shape : Shape} {lower upper work network : List ℕ} {a : CompileAnswer} {work′ network′ : List ℕ} → compiling.Compiles how shape lower upper work network a work′ network′ → FewRecords a
 few c n e = omega (arith, few-records c n e)
 
-module _ (bytes lower upper work network : List ℕ) (r : ℕ) where
+module _ (how : Settings) (bytes lower upper work network : List ℕ) (r : ℕ) where
   abbrev rows : Shape → Verdict (List Record)
-  rows shape = compileRows shape lower upper work network
+  rows shape = compileRows how shape lower upper work network
 
-  pub compiles : (x : Shape) (a : CompileAnswer) (work′ network′ : List ℕ) → Made bytes x → compiling.Compiles x lower upper work network a work′ network′ → r ≡ compileNumber a
-      → Compiles bytes lower upper work network r work′ network′
+  pub compiles : (x : Shape) (a : CompileAnswer) (work′ network′ : List ℕ) → Made bytes x → compiling.Compiles how x lower upper work network a work′ network′ → r ≡ compileNumber a
+      → Compiles how bytes lower upper work network r work′ network′
   compiles x a work′ network′ made found number =
-      let f : compiling.Compiles (lentShape bytes) lower upper work network a work′ network′ =
-      subst (λ (y : Shape). compiling.Compiles y lower upper work network a work′ network′) (made .same) found in
+      let f : compiling.Compiles how (lentShape bytes) lower upper work network a work′ network′ =
+      subst (λ (y : Shape). compiling.Compiles how y lower upper work network a work′ network′) (made .same) found in
       let same : rows (lentShape bytes) ≡ lent bytes rows = sym (ten-lent bytes rows (made .ten)) in
       record {
         answer = number ∙ ap compileNumber (f .answers) ∙ verdict-number (rows (lentShape bytes)) ∙ ap (λ (v : Verdict (List Record)). callNumber v length) same;
         network-after = f .network-after ∙ ap (λ (v : Verdict (List Record)). networkAfter v network) same;
         refusal-keeps = λ h. keeps a work work′ (few f) (f .refusal-keeps) (omega arith);
         kept = f .kept;
-        keeps-table = λ h. subst (λ (n : ℕ). KeepsTable (lentShape bytes) lower upper n network′) (sym number) (f .keeps-table (compileNumber a) (is-count a (omega arith)));
+        keeps-table = λ h. subst (λ (n : ℕ). KeepsTable how (lentShape bytes) lower upper n network′) (sym number) (f .keeps-table (compileNumber a) (is-count a (omega arith)));
       }
 
-  pub compile-refuses : (q : Refusal) → shapeOfBytes bytes ≡ refused q → r ≡ 65536 + refusalNumber q → Compiles bytes lower upper work network r work network
+  pub compile-refuses : (q : Refusal) → shapeOfBytes bytes ≡ refused q → r ≡ 65536 + refusalNumber q → Compiles how bytes lower upper work network r work network
   compile-refuses q e number =
       let same : refused q ≡ lent bytes rows = sym (lent-refused bytes e rows (λ y u. rw u)) in
       record {

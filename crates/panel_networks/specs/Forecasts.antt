@@ -1,10 +1,11 @@
--- What `grades_forecast` promises.
+-- What `grades_forecast_with` promises, and `grades_forecast` of the usual settings.
 use Prim.Native.Nat.{ℕ, _/_, _%_, _≤_, _<_}
 use mathlib.Core.Path.{_≡_}
 use mathlib.Core.List.{List, _∷_}
 use lib.Dec.{leb}
 use lib.ListN.{length, drop}
 use Rattle.rules.specs.declared.Refusal.the-variants.{ShapeRange, ShortBuffer}
+use Rattle.rules.specs.declared.Settings.{Settings}
 use Rattle.rules.specs.Bytes.{word, Past}
 use Rattle.rules.specs.Cell.{cells}
 use Rattle.rules.specs.CompileCall.{compileWork}
@@ -19,9 +20,9 @@ use Rattle.panel_answers.specs.Answers.{lentShape, lent, callNumber}
 use Rattle.panel_networks.specs.Compiles.{Compiles}
 
 -- the rows of a forecast, with the depth's buffer among those that may be too short
-abbrev pub depthRows : List ℕ → List ℕ → List ℕ → List ℕ → Shape → Verdict Forecast
-depthRows lower upper work depth shape =
-    unless (isSound shape) ShapeRange (unless (leb 2 (length depth)) ShortBuffer (forecastRows shape lower upper work))
+abbrev pub depthRows : Settings → List ℕ → List ℕ → List ℕ → List ℕ → Shape → Verdict Forecast
+depthRows how lower upper work depth shape =
+    unless (isSound shape) ShapeRange (unless (leb 2 (length depth)) ShortBuffer (forecastRows how shape lower upper work))
 
 -- a number as two bytes, the low one first, at the front of a buffer
 abbrev pub withWord : ℕ → List ℕ → List ℕ
@@ -32,13 +33,13 @@ abbrev pub depthAfter : Verdict Forecast → List ℕ → List ℕ
 depthAfter (accepted f) depth = withWord (f .depth) depth
 depthAfter (refused r) depth = depth
 
-module _ (bytes lower upper work depth : List ℕ) where
+module _ (how : Settings) (bytes lower upper work depth : List ℕ) where
   abbrev verdict : Verdict Forecast
-  verdict = lent bytes (depthRows lower upper work depth)
+  verdict = lent bytes (depthRows how lower upper work depth)
 
-  -- both figures are those of the network that `grades_compile` has written for the same table, as its bytes are read
+  -- both figures are those of the network that compiling under the same settings has written for the same table, as its bytes are read
   abbrev pub Foretells : ℕ → ℕ → Type 0
-  Foretells count levels = (work network work′ network′ : List ℕ) (n : ℕ) → Compiles bytes lower upper work network n work′ network′ → n < 65536
+  Foretells count levels = (work network work′ network′ : List ℕ) (n : ℕ) → Compiles how bytes lower upper work network n work′ network′ → n < 65536
       → (count ≡ n) × (levels ≡ networkDepth (networkRecords (placesOf (lentShape bytes)) (written n network′)))
 
   -- how many records, and every byte of the depth's buffer, by these rows; a refusal leaves the work buffer too, and nothing

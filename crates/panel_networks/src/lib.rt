@@ -3,6 +3,7 @@
 ghost use Prim.Native.Nat.{_≤_, _<_};
 ghost use mathlib.Core.Path.{_≡_};
 ghost use lib.ListN.{length};
+ghost use Rattle.rules.specs.Settings.{usual, settingsOf};
 ghost use Rattle.panel_networks.specs.Compiles.{Compiles};
 ghost use Rattle.panel_networks.specs.Forecasts.{withWord, Forecasts};
 ghost use Rattle.panel_networks.specs.Checks.{Checks};
@@ -45,17 +46,38 @@ pub fn evaluate_each(
     }
 }
 
-// The network of a table: how many records were written. The work buffer has 32 bytes for each
+// The network of a table, grown under settings: how many records were written. The work buffer has 32 bytes for each
 // cell, the network buffer 16 for each of the most records that there can be.
-pub fn compile(shape: &[u8], lower: &[u8], upper: &[u8], work: &mut [u8], network: &mut [u8]) -> u32
-    ensures { λ r. ⌜ Compiles (now (shape .entry)) (now (lower .entry)) (now (upper .entry)) (now (work .entry)) (now (network .entry)) r (now (work .exit)) (now (network .exit)) ⌝ }
+pub fn compile_with(
+    shape: &[u8],
+    lower: &[u8],
+    upper: &[u8],
+    settings: u8,
+    work: &mut [u8],
+    network: &mut [u8],
+) -> u32
+    ensures { λ r. ⌜ Compiles (settingsOf settings) (now (shape .entry)) (now (lower .entry)) (now (upper .entry)) (now (work .entry)) (now (network .entry)) r (now (work .exit)) (now (network .exit)) ⌝ }
 {
     match Shape::from_bytes(shape) {
         ShapeAnswer::Refused(refusal) => panel_answers::of_refusal(refusal),
         ShapeAnswer::Accepted(shape) => {
-            panel_answers::of_compile(compile::compile(shape, lower, upper, work, network))
+            panel_answers::of_compile(compile::compile_with(
+                shape,
+                lower,
+                upper,
+                settings::of_byte(settings),
+                work,
+                network,
+            ))
         }
     }
+}
+
+// The same under the usual settings.
+pub fn compile(shape: &[u8], lower: &[u8], upper: &[u8], work: &mut [u8], network: &mut [u8]) -> u32
+    ensures { λ r. ⌜ Compiles usual (now (shape .entry)) (now (lower .entry)) (now (upper .entry)) (now (work .entry)) (now (network .entry)) r (now (work .exit)) (now (network .exit)) ⌝ }
+{
+    compile_with(shape, lower, upper, 0, work, network)
 }
 
 // A number as two bytes, the low one first, at the front of a buffer.
@@ -67,10 +89,17 @@ fn put_word(buffer: &mut [u8], n: usize)
     buffer[1] = (n / 256) as u8;
 }
 
-// What the network of a table will have: how many records, and in two bytes, low first, the depth of gates under
-// the last one. The work buffer has 32 bytes for each cell.
-pub fn forecast(shape: &[u8], lower: &[u8], upper: &[u8], work: &mut [u8], depth: &mut [u8]) -> u32
-    ensures { λ r. ⌜ Forecasts (now (shape .entry)) (now (lower .entry)) (now (upper .entry)) (now (work .entry)) (now (depth .entry)) r (now (work .exit)) (now (depth .exit)) ⌝ }
+// What the network of a table will have, grown under settings: how many records, and in two bytes, low first, the
+// depth of gates under the last one. The work buffer has 32 bytes for each cell.
+pub fn forecast_with(
+    shape: &[u8],
+    lower: &[u8],
+    upper: &[u8],
+    settings: u8,
+    work: &mut [u8],
+    depth: &mut [u8],
+) -> u32
+    ensures { λ r. ⌜ Forecasts (settingsOf settings) (now (shape .entry)) (now (lower .entry)) (now (upper .entry)) (now (work .entry)) (now (depth .entry)) r (now (work .exit)) (now (depth .exit)) ⌝ }
 {
     match Shape::from_bytes(shape) {
         ShapeAnswer::Refused(refusal) => panel_answers::of_refusal(refusal),
@@ -78,7 +107,8 @@ pub fn forecast(shape: &[u8], lower: &[u8], upper: &[u8], work: &mut [u8], depth
             if depth.len() < 2 {
                 return panel_answers::of_refusal(Refusal::ShortBuffer);
             }
-            match compile::forecast(shape, lower, upper, work) {
+            let how = settings::of_byte(settings);
+            match compile::forecast_with(shape, lower, upper, how, work) {
                 ForecastAnswer::Refused(refusal) => panel_answers::of_refusal(refusal),
                 ForecastAnswer::Figures {
                     records,
@@ -90,6 +120,13 @@ pub fn forecast(shape: &[u8], lower: &[u8], upper: &[u8], work: &mut [u8], depth
             }
         }
     }
+}
+
+// The same under the usual settings.
+pub fn forecast(shape: &[u8], lower: &[u8], upper: &[u8], work: &mut [u8], depth: &mut [u8]) -> u32
+    ensures { λ r. ⌜ Forecasts usual (now (shape .entry)) (now (lower .entry)) (now (upper .entry)) (now (work .entry)) (now (depth .entry)) r (now (work .exit)) (now (depth .exit)) ⌝ }
+{
+    forecast_with(shape, lower, upper, 0, work, depth)
 }
 
 // Whether a network keeps within a table's limits: 0, or a number for the first cell outside and

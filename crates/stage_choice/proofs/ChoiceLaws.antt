@@ -8,6 +8,7 @@ use native.Mathlib.Omega.{arith}
 use lib.ListN.{length}
 use Rattle.rules.specs.declared.Gate.{Gate}
 use Rattle.rules.specs.declared.Gate.the-variants.{Min, Max}
+use Rattle.rules.specs.declared.Settings.{Settings}
 use Rattle.rules.specs.Bytes.{at, numbersFrom}
 use Rattle.rules.specs.Cell.{cells, present}
 use Rattle.rules.specs.Join.{exchangeFor, joinExists}
@@ -50,15 +51,15 @@ same-sets : {p q : Sets} → Some p ≡ Some q → p ≡ q
 same-sets {p} e = ap (found-sets p) e
 
 -- a choice between two groupings that are known
-pub decided : {a b : Found} (x y : Found) (r : Choice) → a ≡ x → b ≡ y → Does r (choose (foundSets x) (foundSets y)) → Taken x y r → Decided a b r
-decided {a} {b} x y r ea eb e t =
-    subst (λ (z : Found). Decided z b r) (sym ea) (subst (λ (z : Found). Decided x z r) (sym eb) (record { is = e; taken = t }))
+pub decided : {tie : Gate} {a b : Found} (x y : Found) (r : Choice) → a ≡ x → b ≡ y → Does r (choose tie (foundSets x) (foundSets y)) → Taken x y r → Decided tie a b r
+decided {tie} {a} {b} x y r ea eb e t =
+    subst (λ (z : Found). Decided tie z b r) (sym ea) (subst (λ (z : Found). Decided tie x z r) (sym eb) (record { is = e; taken = t }))
 
-module _ {a b : Found} {p q : Sets} (ea : a ≡ Some p) (eb : b ≡ Some q) {k : Bool} (e : k ≡ keepsMax (p .s) (p .t) (q .s) (q .t)) where
-  kept-choice : (v : Bool) → k ≡ v → choose (foundSets (Some p)) (foundSets (Some q)) ≡ cond v (joining Max (p .s) (p .t)) (joining Min (q .s) (q .t))
+module _ (tie : Gate) {a b : Found} {p q : Sets} (ea : a ≡ Some p) (eb : b ≡ Some q) {k : Bool} (e : k ≡ keepsMax tie (p .s) (p .t) (q .s) (q .t)) where
+  kept-choice : (v : Bool) → k ≡ v → choose tie (foundSets (Some p)) (foundSets (Some q)) ≡ cond v (joining Max (p .s) (p .t)) (joining Min (q .s) (q .t))
   kept-choice v h = ap (λ (z : Bool). cond z (joining Max (p .s) (p .t)) (joining Min (q .s) (q .t))) (sym e ∙ h)
 
-  pub decided-both : (v : Bool) → k ≡ v → Decided a b (cond v (Join Max p) (Join Min q))
+  pub decided-both : (v : Bool) → k ≡ v → Decided tie a b (cond v (Join Max p) (Join Min q))
   decided-both true h = decided (Some p) (Some q) (Join Max p) ea eb (kept-choice true h) refl
   decided-both false h = decided (Some p) (Some q) (Join Min q) ea eb (kept-choice false h) refl
 
@@ -230,10 +231,11 @@ module _ {m : ℕ} {ks w : List ℕ} (long : 8 * cells ks ≤ length w) {b : Fou
         for-both (min .tables of t) (e .lows ∙ here (3 * c) (3 * c) refl (omega arith) (omega arith)) (e .seconds ∙ here (4 * c) (3 * c + c) (omega arith) (omega arith) (omega arith))
         (e .firsts ∙ here (5 * c) (3 * c + c + c) (omega arith) (omega arith) (omega arith))
 
-    pub is-chosen : {w₃ : List ℕ} {n : ℕ} (r : Choice) → n ≡ cells ks → Decided a b r → Settled n w₂ r w₃ → length w₃ ≡ length w → Chosen m (frontStage ks w) w r w₃
-    is-chosen {w₃} r q d e l =
+    pub is-chosen : (how : Settings) {w₃ : List ℕ} {n : ℕ} (r : Choice) → n ≡ cells ks → Decided (how .tie) a b r → Settled n w₂ r w₃ → length w₃ ≡ length w
+        → Chosen how m (frontStage ks w) w r w₃
+    is-chosen how {w₃} r q d e l =
         record {
-          is = subst (Does r) (ap₂ choose (max .is ∙ ap (λ (x : Stage). groups m x Max) same-front) (min .is)) (d .is);
+          is = subst (Does r) (ap₂ (choose (how .tie)) (max .is ∙ ap (λ (x : Stage). groups m x Max) same-front) (min .is)) (d .is);
           tables = prepared w₃ r (d .taken) (subst (λ (k : ℕ). Settled k w₂ r w₃) q e);
           len = l;
         }

@@ -5,6 +5,7 @@ use mathlib.Core.List.{List}
 use lib.ListN.{length}
 use Rattle.rules.specs.declared.Gate.{Gate}
 use Rattle.rules.specs.declared.Gate.the-variants.{Min, Max}
+use Rattle.rules.specs.declared.Settings.{Settings}
 use Rattle.rules.specs.Bytes.{at}
 use Rattle.rules.specs.Cell.{cells}
 use Rattle.rules.specs.Join.{exchangeFor}
@@ -89,9 +90,9 @@ Taken a b Split = (a ≡ Nothing) × (b ≡ Nothing)
 Taken a b (Join Max of) = a ≡ Some of
 Taken a b (Join Min of) = b ≡ Some of
 
--- the choice between the grouping for max and the one for min
-pub record Decided (a b : Found) (r : Choice) : Type 0 where
-  pub is : Does r (rules.choose (foundSets a) (foundSets b))
+-- the choice between the grouping for max and the one for min, by the gate that wins ties
+pub record Decided (tie : Gate) (a b : Found) (r : Choice) : Type 0 where
+  pub is : Does r (rules.choose tie (foundSets a) (foundSets b))
   pub taken : Taken a b r
 
 -- the min join's tables in the places of the max join's
@@ -114,7 +115,7 @@ Prepared m x w Split w′ = w′ ≡ w
 Prepared m x w (Join gate of) w′ = ForBoth gate m x (of .s) (of .t) w′
 
 -- the choice of the stage x
-pub record Chosen (m : ℕ) (x : Stage) (w : List ℕ) (r : Choice) (w′ : List ℕ) : Type 0 where
-  pub is : Does r (chosen m x)
+pub record Chosen (how : Settings) (m : ℕ) (x : Stage) (w : List ℕ) (r : Choice) (w′ : List ℕ) : Type 0 where
+  pub is : Does r (chosen how m x)
   pub tables : Prepared m x w r w′
   pub len : length w′ ≡ length w

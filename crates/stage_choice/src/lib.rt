@@ -1,4 +1,5 @@
 // Steps 3 and 4 of a stage: which join, or a split.
+
 use grouping::Sets;
 use masks::Pair;
 use rules::Gate;
@@ -8,6 +9,7 @@ ghost use Rattle.rules.specs.Join.{joinExists};
 ghost use Rattle.masks.specs.Masks.{Known};
 ghost use Rattle.masks.specs.Searching.{FirstPair};
 ghost use Rattle.stage_drops.specs.Working.{Room, frontStage, Proper};
+ghost use Rattle.rules.specs.Settings.{settingsOf};
 ghost use Rattle.stage_choice.specs.Choosing.{Spaced, Exchangeable, Exchanged, LimitsLaid, Sought, Decided, MinSettled, Settled, Chosen};
 
 // What a stage does: the one record of a stage with no condition left or one, a split, or a join.
@@ -59,9 +61,9 @@ fn seek(w: &mut [u8], gate: Gate, ks: [u8; PLACES], m: u8, n: usize, pair: Pair)
     Found::Sets(grouping::group(w, ks, n, i, j, low, low + n))
 }
 
-// The choice between the grouping for max and the one for min.
-fn decide(by_max: Found, by_min: Found) -> Choice
-    ensures { λ r. ⌜ Decided «by_max» «by_min» r ⌝ }
+// The choice between the grouping for max and the one for min, by the gate that wins ties.
+fn decide(tie: Gate, by_max: Found, by_min: Found) -> Choice
+    ensures { λ r. ⌜ Decided tie «by_max» «by_min» r ⌝ }
 {
     match by_max {
         Found::Nothing => match by_min {
@@ -71,7 +73,7 @@ fn decide(by_max: Found, by_min: Found) -> Choice
         Found::Sets(most) => match by_min {
             Found::Nothing => Choice::Join(Gate::Max, most),
             Found::Sets(least) => {
-                if grouping::keeps_max(most, least) {
+                if grouping::keeps_max(tie, most, least) {
                     Choice::Join(Gate::Max, most)
                 } else {
                     Choice::Join(Gate::Min, least)
@@ -110,15 +112,16 @@ fn settle(w: &mut [u8], choice: Choice, n: usize)
 // as it was; a join finds its lower limits in part 0, uB in part 1 and uA in part 2, as the max join wants them.
 // The pairs are found first, since the tables of a grouping take the masks' places, and the min grouping is sought
 // first, since those of a max grouping take the upper limits' place.
-pub fn choose(w: &mut [u8], ks: [u8; PLACES], m: u8, n: usize) -> Choice
+pub fn choose(w: &mut [u8], ks: [u8; PLACES], m: u8, n: usize, how: u8) -> Choice
     requires { ⌜ Room (now w) ks n × Proper m (frontStage ks (now w)) × Known m ks (now w) ⌝ }
-    ensures { λ r. ⌜ Chosen m (frontStage ks (now (w .entry))) (now (w .entry)) r (now (w .exit)) ⌝ }
+    ensures { λ r. ⌜ Chosen (settingsOf how) m (frontStage ks (now (w .entry))) (now (w .entry)) r (now (w .exit)) ⌝ }
 {
     let for_max = masks::first_pair(w, ks, 2 * n, n);
     let for_min = masks::first_pair(w, ks, 3 * n, n);
     let by_min = seek(w, Gate::Min, ks, m, n, for_min);
     let by_max = seek(w, Gate::Max, ks, m, n, for_max);
-    let choice = decide(by_max, by_min);
+    let tie = settings::tie(how);
+    let choice = decide(tie, by_max, by_min);
     settle(w, choice, n);
     choice
 }

@@ -8,6 +8,7 @@ use borrow.Author.Tests.{not-true, lt-ltb, le-ltb}
 use lib.Dec.{T, ltb, ltb→lt}
 use lib.ListN.{length}
 use Rattle.rules.specs.declared.Gate.the-variants.{Min, Max}
+use Rattle.rules.specs.declared.Settings.{Settings}
 use Rattle.rules.specs.Bytes.{at}
 use Rattle.rules.specs.Cell.{cells, width, lowest, has, singleton, without}
 use Rattle.rules.specs.Stage.{Stage, left, split, chosen}
@@ -80,12 +81,12 @@ module _ {ks w : List ℕ} {n : ℕ} {low : Condition} (room : Room w ks n) (is 
   pub wide-here : (low .values ≡ n → ⊥) → 2 ≤ width ks
   wide-here ne = wide-left ks (room .shaped .some) (λ e. ne (is .values ∙ e ∙ sym (room .own)))
 
-  pub does-leaf : {m : ℕ} → low .values ≡ n → Doing m (frontStage ks w) w Leaf w
+  pub does-leaf : {how : Settings} {m : ℕ} → low .values ≡ n → Doing how m (frontStage ks w) w Leaf w
   does-leaf e = record { finds = record { narrow = narrow-here e; stage = refl }; len = refl }
 
-pub does-chosen : {m : ℕ} (ks w : List ℕ) (r : Choice) {w′ : List ℕ} → 2 ≤ width ks → Known m ks w → Chosen m (frontStage ks w) w r w′ → Doing m (frontStage ks w) w r w′
+pub does-chosen : {how : Settings} {m : ℕ} (ks w : List ℕ) (r : Choice) {w′ : List ℕ} → 2 ≤ width ks → Known m ks w → Chosen how m (frontStage ks w) w r w′ → Doing how m (frontStage ks w) w r w′
 does-chosen ks w Leaf wide k c = absurd (c .is)
-does-chosen {m} ks w Split wide k c =
+does-chosen {m = m} ks w Split wide k c =
     record {
       finds = record { wide = wide; is = c .is; stage = ap (frontStage ks) (c .tables); masks = subst (Known m ks) (sym (c .tables)) k };
       len = c .len;
@@ -93,9 +94,9 @@ does-chosen {m} ks w Split wide k c =
 does-chosen ks w (Join gate of) wide k c = record { finds = record { wide = wide; is = c .is; tables = c .tables }; len = c .len }
 
 -- the same of an equal stage, and of a buffer that was as long before
-pub does-same : {m : ℕ} {y z : Stage} {v w : List ℕ} {r : Choice} {w′ : List ℕ} → y ≡ z → length v ≡ length w → Doing m y v r w′ → Doing m z w r w′
-does-same {m} {y} {z} {v} {w} {r} {w′} e l d =
-    subst (λ (x : Stage). Doing m x w r w′) e (record { finds = d .finds; len = d .len ∙ l })
+pub does-same : {how : Settings} {m : ℕ} {y z : Stage} {v w : List ℕ} {r : Choice} {w′ : List ℕ} → y ≡ z → length v ≡ length w → Doing how m y v r w′ → Doing how m z w r w′
+does-same {how} {m} {y} {z} {v} {w} {r} {w′} e l d =
+    subst (λ (x : Stage). Doing how m x w r w′) e (record { finds = d .finds; len = d .len ∙ l })
 
 -- conditions were dropped
 module _ {m : ℕ} {ks w : List ℕ} {n : ℕ} (room : Room w ks n) (proper : Proper m (frontStage ks w)) {l w₁ : List ℕ} (t : Turned left ks w l w₁) where
@@ -123,13 +124,13 @@ module _ {m : ℕ} {ks w : List ℕ} {n : ℕ} (room : Room w ks n) (proper : Pr
       let r = left-ready m (frontStage ks w) (proper-ready (room .shaped) proper) in
       subst (Proper m) (sym (t .stage)) (record { some = r .grades; ordered = r .good .room; top = r .good .top })
 
-  pub left-planned : {k : ℕ} {low : Condition} {r : Choice} {w′ : List ℕ} → k ≡ cells l → IsLowest l low → Doing m (frontStage l w₁) w₁ r w′
-      → Planned m ks w (record { places = l; cells = k; low = low; choice = r }) w′
+  pub left-planned : {how : Settings} {k : ℕ} {low : Condition} {r : Choice} {w′ : List ℕ} → k ≡ cells l → IsLowest l low → Doing how m (frontStage l w₁) w₁ r w′
+      → Planned how m ks w (record { places = l; cells = k; low = low; choice = r }) w′
   left-planned e is d = record { places = places; own = e; lowest = is; does = does-same (t .stage) (t .len) d }
 
 -- none was
-module _ {m : ℕ} {ks w : List ℕ} {n : ℕ} {low : Condition} (room : Room w ks n) (is : IsLowest ks low) (none : left (frontStage ks w) ≡ frontStage ks w) where
-  pub planned : {r : Choice} {w′ : List ℕ} → Doing m (frontStage ks w) w r w′ → Planned m ks w (record { places = ks; cells = n; low = low; choice = r }) w′
+module _ {how : Settings} {m : ℕ} {ks w : List ℕ} {n : ℕ} {low : Condition} (room : Room w ks n) (is : IsLowest ks low) (none : left (frontStage ks w) ≡ frontStage ks w) where
+  pub planned : {r : Choice} {w′ : List ℕ} → Doing how m (frontStage ks w) w r w′ → Planned how m ks w (record { places = ks; cells = n; low = low; choice = r }) w′
   planned d = record { places = ap (λ (z : Stage). z .ks) (sym none); own = room .own; lowest = is; does = does-same (sym none) refl d }
 
 -- what the masks of a stage tell
@@ -138,18 +139,18 @@ module _ {m : ℕ} {ks w : List ℕ} {n : ℕ} {low : Condition} (room : Room w 
   number-below h = let e = is .number in let l = present-lt ks (lowest ks) (lowest-present ks (room .shaped .some) (omega arith)) in omega arith
 
   -- for either gate a mask has all conditions
-  pub full-plan : 2 ≤ width ks → bothFull w n (low .number) ≡ true → Planned m ks w (record { places = ks; cells = n; low = low; choice = Split }) w
-  full-plan wide e =
+  pub full-plan : (how : Settings) → 2 ≤ width ks → bothFull w n (low .number) ≡ true → Planned how m ks w (record { places = ks; cells = n; low = low; choice = Split }) w
+  full-plan how wide e =
       planned room is (both .0)
       (record { finds = record { wide = wide; is = both .1; stage = refl; masks = masks }; len = refl })
     where
       here : T (bothFull w (cells ks) (lowest ks))
       here = subst T (sym (ap₂ (bothFull w) (sym (room .own)) (sym (is .number)) ∙ e)) tt
 
-      both : (left (frontStage ks w) ≡ frontStage ks w) × (chosen m (frontStage ks w) ≡ split)
+      both : (left (frontStage ks w) ≡ frontStage ks w) × (chosen how m (frontStage ks w) ≡ split)
       both =
           let c = cells ks in
-          full-split ks m (frontStage ks w .limits) eight (part w (2 * c) c) (part w (3 * c) c) (masks .masks Max) (masks .masks Min)
+          full-split ks m (frontStage ks w .limits) eight how (part w (2 * c) c) (part w (3 * c) c) (masks .masks Max) (masks .masks Min)
           (passed (someFull c (part w (2 * c) c) (lowest ks)) (and-l (someFull c (part w (2 * c) c) (lowest ks)) (someFull c (part w (3 * c) c) (lowest ks)) here))
           (passed (someFull c (part w (3 * c) c) (lowest ks)) (and-r (someFull c (part w (2 * c) c) (lowest ks)) (someFull c (part w (3 * c) c) (lowest ks)) here))
 
@@ -172,7 +173,7 @@ module _ (w : List ℕ) (n i : ℕ) {known : Bool} where
 
 -- of a stage with one condition, a mask has it
 module _ {m : ℕ} {ks w : List ℕ} {n : ℕ} {low : Condition} {known : Bool} (room : Room w ks n) (is : IsLowest ks low) (all : low .values ≡ n) (eight : length ks ≡ 8) where
-  pub kept-plan : keepsLast w n (low .number) known ≡ true → (known ≡ true → Known m ks w) → Planned m ks w (record { places = ks; cells = n; low = low; choice = Leaf }) w
+  pub kept-plan : {how : Settings} → keepsLast w n (low .number) known ≡ true → (known ≡ true → Known m ks w) → Planned how m ks w (record { places = ks; cells = n; low = low; choice = Leaf }) w
   kept-plan e k = planned room is none (does-leaf room is all)
     where
       kept : T (keepsLast w n (low .number) known)
@@ -206,7 +207,7 @@ ends-with : {ks w : List ℕ} {l w′ : List ℕ} {n : ℕ} {low : Condition} �
     → Ends ks w (record { places = l; cells = n; low = low; choice = Leaf }) w′
 ends-with {ks} {w} {l} {w′} t e is narrow =
     record {
-      planned = λ m.
+      planned = λ how m.
           let p = ap (λ (z : Stage). z .ks) (t .stage) in
           record {
             places = p;
@@ -252,7 +253,7 @@ module _ {ks w w′ : List ℕ} (b : List ℕ) {r : Bool} where
   dropped-no e t = subst (λ (q : Bool). Turned left ks w (cond q b ks) w′) e t
 
 -- the same stage at the front of another buffer
-pub planned-same : {m : ℕ} {ks v w : List ℕ} {r : Plan} {w′ : List ℕ} → frontStage ks v ≡ frontStage ks w → length v ≡ length w → Planned m ks v r w′ → Planned m ks w r w′
+pub planned-same : {how : Settings} {m : ℕ} {ks v w : List ℕ} {r : Plan} {w′ : List ℕ} → frontStage ks v ≡ frontStage ks w → length v ≡ length w → Planned how m ks v r w′ → Planned how m ks w r w′
 planned-same e l p =
     record {
       places = p .places ∙ ap (λ (x : Stage). left x .ks) e;

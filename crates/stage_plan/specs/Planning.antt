@@ -6,6 +6,7 @@ use mathlib.Core.List.{List}
 use lib.Dec.{ltb}
 use lib.ListN.{length}
 use Rattle.rules.specs.declared.Gate.{Gate}
+use Rattle.rules.specs.declared.Settings.{Settings}
 use Rattle.rules.specs.Bytes.{at}
 use Rattle.rules.specs.Cell.{cells, width}
 use Rattle.rules.specs.Stage.{Stage, left, split, joining, chosen}
@@ -41,34 +42,34 @@ pub record Leaves (y : Stage) (w : List ℕ) : Type 0 where
   pub stage : frontStage (y .ks) w ≡ y
 
 -- one that splits: its limits and its masks
-pub record Splitting (m : ℕ) (y : Stage) (w : List ℕ) : Type 0 where
+pub record Splitting (how : Settings) (m : ℕ) (y : Stage) (w : List ℕ) : Type 0 where
   pub wide : 2 ≤ width (y .ks)
-  pub is : chosen m y ≡ split
+  pub is : chosen how m y ≡ split
   pub stage : frontStage (y .ks) w ≡ y
   pub masks : Known m (y .ks) w
 
 -- one that joins: what its blocks are made from
-pub record Joining (gate : Gate) (m : ℕ) (y : Stage) (s t : ℕ) (w : List ℕ) : Type 0 where
+pub record Joining (how : Settings) (gate : Gate) (m : ℕ) (y : Stage) (s t : ℕ) (w : List ℕ) : Type 0 where
   pub wide : 2 ≤ width (y .ks)
-  pub is : chosen m y ≡ joining gate s t
+  pub is : chosen how m y ≡ joining gate s t
   pub tables : ForBoth gate m y s t w
 
-abbrev pub Finds : ℕ → Stage → Choice → List ℕ → Type 0
-Finds m y Leaf w = Leaves y w
-Finds m y Split w = Splitting m y w
-Finds m y (Join gate of) w = Joining gate m y (of .s) (of .t) w
+abbrev pub Finds : Settings → ℕ → Stage → Choice → List ℕ → Type 0
+Finds how m y Leaf w = Leaves y w
+Finds how m y Split w = Splitting how m y w
+Finds how m y (Join gate of) w = Joining how gate m y (of .s) (of .t) w
 
-pub record Doing (m : ℕ) (y : Stage) (w : List ℕ) (r : Choice) (w′ : List ℕ) : Type 0 where
-  pub finds : Finds m y r w′
+pub record Doing (how : Settings) (m : ℕ) (y : Stage) (w : List ℕ) (r : Choice) (w′ : List ℕ) : Type 0 where
+  pub finds : Finds how m y r w′
   pub len : length w′ ≡ length w
 
 -- what the stage at the front of w does, with what is left of it
-pub record Planned (m : ℕ) (ks w : List ℕ) (r : Plan) (w′ : List ℕ) : Type 0 where
+pub record Planned (how : Settings) (m : ℕ) (ks w : List ℕ) (r : Plan) (w′ : List ℕ) : Type 0 where
   pub places : r .places ≡ left (frontStage ks w) .ks
   pub own : r .cells ≡ cells (r .places)
   pub lowest : IsLowest (r .places) (r .low)
-  pub does : Doing m (left (frontStage ks w)) w (r .choice) w′
+  pub does : Doing how m (left (frontStage ks w)) w (r .choice) w′
 
--- the same whatever the number of grades
+-- the same whatever the settings and the number of grades
 pub record Ends (ks w : List ℕ) (r : Plan) (w′ : List ℕ) : Type 0 where
-  pub planned : (m : ℕ) → Planned m ks w r w′
+  pub planned : (how : Settings) (m : ℕ) → Planned how m ks w r w′

@@ -14,6 +14,7 @@ ghost use Rattle.rules.specs.Cell.{width};
 ghost use Rattle.places.specs.Conditions.{IsLowest};
 ghost use Rattle.masks.specs.Masks.{Known};
 ghost use Rattle.stage_drops.specs.Working.{Room, frontStage, Proper};
+ghost use Rattle.rules.specs.Settings.{settingsOf};
 ghost use Rattle.stage_plan.specs.Planning.{Ordered, Learnt, bothFull, keepsLast, Doing, Ends, Planned};
 
 // What is left of a stage: its places, how many cells these have, the lowest condition, and what the stage does.
@@ -47,27 +48,27 @@ fn both_full(w: &[u8], n: usize, k: usize) -> bool
 }
 
 // What the stage at the front does, whose conditions are left.
-fn choose_left(w: &mut [u8], ks: [u8; PLACES], m: u8, n: usize, low: Condition) -> Choice
+fn choose_left(w: &mut [u8], ks: [u8; PLACES], m: u8, n: usize, low: Condition, how: u8) -> Choice
     requires { ⌜ Room (now w) ks n × Proper m (frontStage ks (now w)) × IsLowest ks low ⌝ }
-    ensures { λ r. ⌜ Doing m (frontStage ks (now (w .entry))) (now (w .entry)) r (now (w .exit)) ⌝ }
+    ensures { λ r. ⌜ Doing (settingsOf how) m (frontStage ks (now (w .entry))) (now (w .entry)) r (now (w .exit)) ⌝ }
 {
     if low.values == n {
         return Choice::Leaf;
     }
     mask_making::make(w, ks, n);
-    stage_choice::choose(w, ks, m, n)
+    stage_choice::choose(w, ks, m, n, how)
 }
 
 // The plan of a stage from which conditions may drop.
-fn reduce(w: &mut [u8], ks: [u8; PLACES], m: u8, n: usize) -> Plan
+fn reduce(w: &mut [u8], ks: [u8; PLACES], m: u8, n: usize, how: u8) -> Plan
     requires { ⌜ Room (now w) ks n × Proper m (frontStage ks (now w)) ⌝ }
-    ensures { λ r. ⌜ Planned m ks (now (w .entry)) r (now (w .exit)) ⌝ }
+    ensures { λ r. ⌜ Planned (settingsOf how) m ks (now (w .entry)) r (now (w .exit)) ⌝ }
 {
     let kept = stage_drops::drop_all(w, ks, n);
     let places = kept.places;
     let cells = kept.cells;
     let low = sets::lowest(places);
-    let choice = choose_left(w, places, m, cells, low);
+    let choice = choose_left(w, places, m, cells, low, how);
     Plan {
         places,
         cells,
@@ -99,9 +100,9 @@ fn end(w: &mut [u8], ks: [u8; PLACES], n: usize, low: Condition) -> Plan
 }
 
 // The plan of a stage that has two conditions or more and knows its masks.
-fn plan_known(w: &mut [u8], ks: [u8; PLACES], m: u8, n: usize, low: Condition) -> Plan
+fn plan_known(w: &mut [u8], ks: [u8; PLACES], m: u8, n: usize, low: Condition, how: u8) -> Plan
     requires { ⌜ Room (now w) ks n × Proper m (frontStage ks (now w)) × Known m ks (now w) × IsLowest ks low × (2 ≤ width ks) ⌝ }
-    ensures { λ r. ⌜ Planned m ks (now (w .entry)) r (now (w .exit)) ⌝ }
+    ensures { λ r. ⌜ Planned (settingsOf how) m ks (now (w .entry)) r (now (w .exit)) ⌝ }
 {
     if both_full(w, n, low.number) {
         return Plan {
@@ -113,7 +114,7 @@ fn plan_known(w: &mut [u8], ks: [u8; PLACES], m: u8, n: usize, low: Condition) -
     }
     let seen = tests::seen(w, 2 * n, n);
     if tests::full(seen, low.number) {
-        let choice = stage_choice::choose(w, ks, m, n);
+        let choice = stage_choice::choose(w, ks, m, n, how);
         return Plan {
             places: ks,
             cells: n,
@@ -121,7 +122,7 @@ fn plan_known(w: &mut [u8], ks: [u8; PLACES], m: u8, n: usize, low: Condition) -
             choice,
         };
     }
-    reduce(w, ks, m, n)
+    reduce(w, ks, m, n, how)
 }
 
 // Whether the masks of a stage that has one condition or none are known, and tell that it has one and keeps it.
@@ -140,9 +141,9 @@ fn keeps_last(w: &[u8], n: usize, low: Condition, known: bool) -> bool
 
 // The plan of the stage over ks, of n cells, whose limits are at the front of the work buffer and, where they are
 // known, its masks behind them. A split finds both there; a join finds what its blocks are made from.
-pub fn plan_stage(w: &mut [u8], ks: [u8; PLACES], m: u8, n: usize, known: bool) -> Plan
+pub fn plan_stage(w: &mut [u8], ks: [u8; PLACES], m: u8, n: usize, known: bool, how: u8) -> Plan
     requires { ⌜ Room (now w) ks n × Proper m (frontStage ks (now w)) × (known ≡ true → Known m ks (now w)) ⌝ }
-    ensures { λ r. ⌜ Planned m ks (now (w .entry)) r (now (w .exit)) ⌝ }
+    ensures { λ r. ⌜ Planned (settingsOf how) m ks (now (w .entry)) r (now (w .exit)) ⌝ }
 {
     let low = sets::lowest(ks);
     if low.values == n {
@@ -157,5 +158,5 @@ pub fn plan_stage(w: &mut [u8], ks: [u8; PLACES], m: u8, n: usize, known: bool) 
         return end(w, ks, n, low);
     }
     learn(w, ks, n, known);
-    plan_known(w, ks, m, n, low)
+    plan_known(w, ks, m, n, low, how)
 }

@@ -10,6 +10,7 @@ use Rattle.rules.specs.Bytes.{at, tabulate}
 use Rattle.rules.specs.Cell.{Positive, cells, width, remap, moved}
 use Rattle.rules.specs.Network.{constant, literal}
 use Rattle.rules.specs.Tree.{Tree, fixed, lookup}
+use Rattle.rules.specs.declared.Settings.{Settings}
 use Rattle.rules.specs.Stage.{Stage, leftTree}
 use Rattle.laws.proofs.CellLaws.{cells-pos, cell-value}
 use Rattle.laws.proofs.LowestLaws.{one-cells, none-left, some-left}
@@ -39,30 +40,30 @@ module _ (ks w : List ℕ) {low : Condition} (shaped : Shaped ks) (places : leng
   abbrev stage : List ℕ → Stage
   stage u = stageOf ks (record { lower = part w 0 (cells ks); upper = u })
 
-  abbrev leaf : (m : ℕ) (sub : Bool → Stage → Tree) (may : Bool) (u : List ℕ) → Tree
-  leaf m sub may u = leftTree m sub may (width ks) (stage u)
+  abbrev leaf : (how : Settings) (m : ℕ) (sub : Bool → Stage → Tree) (may : Bool) (u : List ℕ) → Tree
+  leaf how m sub may u = leftTree how m sub may (width ks) (stage u)
 
-  none-tree : 8 ≤ low .number → (m : ℕ) (sub : Bool → Stage → Tree) (may : Bool) (u : List ℕ) → fixed (at w 0) ≡ leaf m sub may u
-  none-tree h m sub may u =
+  none-tree : 8 ≤ low .number → (how : Settings) (m : ℕ) (sub : Bool → Stage → Tree) (may : Bool) (u : List ℕ) → fixed (at w 0) ≡ leaf how m sub may u
+  none-tree h how m sub may u =
       let e = is .number in
       ap fixed (sym (part-at w 0 (cells ks) 0 (cells-pos ks (shaped .some))))
-      ∙ ap (λ (n : ℕ). leftTree m sub may n (stage u)) (sym (none-left ks (shaped .some) (omega arith)))
+      ∙ ap (λ (n : ℕ). leftTree how m sub may n (stage u)) (sym (none-left ks (shaped .some) (omega arith)))
 
-  one-tree : low .number < 8 → (m : ℕ) (sub : Bool → Stage → Tree) (may : Bool) (u : List ℕ) → lookup (low .number) (tabulate (low .values) (at w)) ≡ leaf m sub may u
-  one-tree h m sub may u =
+  one-tree : low .number < 8 → (how : Settings) (m : ℕ) (sub : Bool → Stage → Tree) (may : Bool) (u : List ℕ) → lookup (low .number) (tabulate (low .values) (at w)) ≡ leaf how m sub may u
+  one-tree h how m sub may u =
       let e = is .number in
       let one : width ks ≡ 1 = let some = some-left ks (shaped .some) (omega arith) in omega arith in
       let all : low .values ≡ cells ks = is .values ∙ one-cells ks (shaped .some) one in
       ap (lookup (low .number))
       (tabulate-same (low .values) (at w) (at (part w 0 (cells ks))) (λ c l. sym (part-at w 0 (cells ks) c (omega arith) ∙ ap (at w) (omega arith))))
       ∙ ap₂ (λ (i n : ℕ). lookup i (tabulate n (at (part w 0 (cells ks))))) (is .number) (is .values)
-      ∙ ap (λ (n : ℕ). leftTree m sub may n (stage u)) (sym one)
+      ∙ ap (λ (n : ℕ). leftTree how m sub may n (stage u)) (sym one)
 
-  pub leaf-tree : {net : List ℕ} {r : ℕ} {of : Extent} {net′ : List ℕ} → LeafPut low w net r of net′ → (m : ℕ) (sub : Bool → Stage → Tree) (may : Bool) (u : List ℕ) → TreePut (leaf m sub may u) net r of net′
-  leaf-tree {net} {r} {of} {net′} p m sub may u =
+  pub leaf-tree : {net : List ℕ} {r : ℕ} {of : Extent} {net′ : List ℕ} → LeafPut low w net r of net′ → (how : Settings) (m : ℕ) (sub : Bool → Stage → Tree) (may : Bool) (u : List ℕ) → TreePut (leaf how m sub may u) net r of net′
+  leaf-tree {net} {r} {of} {net′} p how m sub may u =
       by-order 8 (low .number)
-      (λ le. subst (λ (t : Tree). TreePut t net r of net′) (none-tree le m sub may u) (p .none le))
-      (λ lt. subst (λ (t : Tree). TreePut t net r of net′) (one-tree lt m sub may u) (p .one lt))
+      (λ le. subst (λ (t : Tree). TreePut t net r of net′) (none-tree le how m sub may u) (p .none le))
+      (λ lt. subst (λ (t : Tree). TreePut t net r of net′) (one-tree lt how m sub may u) (p .one lt))
 
 -- a table moved to the places it has
 pub moved-self : (ks f : List ℕ) → Positive ks → length f ≡ cells ks → moved ks ks f ≡ f

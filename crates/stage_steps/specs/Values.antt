@@ -5,34 +5,36 @@ use mathlib.Core.List.{List}
 use lib.Dec.{eqb}
 use lib.ListN.{length}
 use Rattle.rules.specs.declared.Gate.the-variants.{Min, Max}
-use Rattle.rules.specs.Bytes.{at, pick, tabulate}
+use Rattle.rules.specs.Bytes.{pick, tabulate}
 use Rattle.rules.specs.Tree.{lookup}
-use Rattle.tables.specs.Part.{part}
+use Rattle.moves.specs.Row.{Rows}
 use Rattle.stage_steps.specs.declared.gates.Extent.{Extent}
 use Rattle.stage_steps.specs.Extents.{TreePut, GateRoom, GatePut}
+use Rattle.stage_steps.specs.Rows.{RowsLaid}
 
--- the cells where the lowest condition, with the given number of values, is k: n of them
-abbrev pub valueCells : List ℕ → ℕ → ℕ → ℕ → List ℕ
-valueCells f n values k = tabulate n (λ j. at f (k + values * j))
-
--- room for the tables of one value behind the parts of c bytes
-pub record ValueRoom (w : List ℕ) (n values c k r : ℕ) : Type 0 where
+-- room for the tables of one value behind the parts of c bytes; i is the condition, and a row and the next of that value are apart by so much
+pub record ValueRoom (w : List ℕ) (i n stp apart values c k r : ℕ) : Type 0 where
+  pub there : i < 8
   pub below : k < values
+  pub rows : Rows stp n
+  pub gap : apart ≡ stp * values
   pub few : values ≤ 8
   pub own : values * n ≡ c
   pub work : 8 * c + 4 * n ≤ length w
   pub number : r < 65536
 
--- the literal that selects k is record r, and the limits of the stage for k and its masks stand at 8 × c
-pub record ValueBegun (i values n c k top : ℕ) (w net : List ℕ) (r : ℕ) (of : Extent) (w′ net′ : List ℕ) : Type 0 where
+-- the literal that selects k is record r, and the limits of the stage for k and its masks stand at 8 × c; condition i is not there, and its
+-- bit is free
+pub record ValueBegun (i stp values n c k top : ℕ) (w net : List ℕ) (r : ℕ) (of : Extent) (w′ net′ : List ℕ) : Type 0 where
   pub put : TreePut (lookup i (tabulate values (λ v. pick (eqb v k) top 0))) net r of net′
-  pub tables : (q : ℕ) → q < 4 → part w′ (8 * c + q * n) n ≡ valueCells (part w (q * c) (values * n)) n values k
-  pub before : (j : ℕ) → j < 8 * c → at w′ j ≡ at w j
-  pub len : length w′ ≡ length w
+  pub tables : RowsLaid w i n stp values c k 4 w′
 
 -- the function of the stage for k at 8 × c, and room for all in part 4
-pub record KeepRoom (w : List ℕ) (n values c k : ℕ) : Type 0 where
+pub record KeepRoom (w : List ℕ) (n stp apart values c k : ℕ) : Type 0 where
+  pub some : 0 < n
   pub below : k < values
+  pub rows : Rows stp n
+  pub gap : apart ≡ stp * values
   pub own : values * n ≡ c
   pub work : 8 * c + n ≤ length w
 

@@ -9,6 +9,7 @@ use borrow.Rule.Slice.PartMut.{putMid}
 use lib.Dec.{T}
 use lib.ListN.{length}
 use Rattle.rules.specs.declared.Gate.{Gate}
+use Rattle.rules.specs.declared.Settings.{Settings}
 use Rattle.rules.specs.Bytes.{at, tabulate}
 use Rattle.rules.specs.Cell.{cells, width, value, without, moved}
 use Rattle.rules.specs.Limits.{Limits}
@@ -45,7 +46,7 @@ unknown e = absurd (subst T (sym e) tt)
 standing-back : {c : ℕ} {w v w′ : List ℕ} → Back (8 * c) w v w′ → 8 * c ≤ length w → Standing c w w′
 standing-back {c} k h = record { lows = back-front 0 c k (omega arith) h; aside = back-front (4 * c) (2 * c) k (omega arith) h }
 
-module _ {gate : Gate} {m : ℕ} {ks : List ℕ} {l : Limits} {s t : ℕ} {may : Bool} {c : ℕ} {w : List ℕ} {r : ℕ} (j : Joins gate m (stageOf ks l) s t may c w r) where
+module _ {how : Settings} {gate : Gate} {m : ℕ} {ks : List ℕ} {l : Limits} {s t : ℕ} {may : Bool} {c : ℕ} {w : List ℕ} {r : ℕ} (j : Joins how gate m (stageOf ks l) s t may c w r) where
   abbrev y : Stage
   y = stageOf ks l
 
@@ -56,7 +57,7 @@ module _ {gate : Gate} {m : ℕ} {ks : List ℕ} {l : Limits} {s t : ℕ} {may :
   A = firstStage m gate s t y
 
   abbrev g : List ℕ
-  g = computed ks (treeOf m may A)
+  g = computed ks (treeOf how m may A)
 
   abbrev B : Stage
   B = secondStage m gate s t y g
@@ -93,7 +94,7 @@ module _ {gate : Gate} {m : ℕ} {ks : List ℕ} {l : Limits} {s t : ℕ} {may :
     first-stage : stageAt a (rest (8 * c) w₁) 0 (cells a) ≡ A
     first-stage = child-stage first-lent (f .stage s l (j .tables))
 
-    pub first-starts : {n : ℕ} → n ≡ cells a → Starts m a n false may (rest (8 * c) w₁) r
+    pub first-starts : {n : ℕ} → n ≡ cells a → Starts how m a n false may (rest (8 * c) w₁) r
     first-starts e = child-starts first-lent (A .limits) e first-stage (first-ready m gate s t y ready (j .exists)) unknown (let i = j .numbers in omega arith)
 
     pub first-falls : stageRank may a < joinRank may ks
@@ -103,14 +104,14 @@ module _ {gate : Gate} {m : ℕ} {ks : List ℕ} {l : Limits} {s t : ℕ} {may :
         go true h = let e = ap width (f .places) in let g = rank-fewer true a ks (omega (arith, h refl)) in omega arith
         go false h = let e = ap width (f .places) in let g = without-le t ks in omega arith
 
-    pub first-back : {net v net₁ : List ℕ} {e₁ : Extent} → Written a (treeOf m may (stageAt a (rest (8 * c) w₁) 0 (cells a))) 0 true (rest (8 * c) w₁) net r e₁ v net₁
+    pub first-back : {net v net₁ : List ℕ} {e₁ : Extent} → Written a (treeOf how m may (stageAt a (rest (8 * c) w₁) 0 (cells a))) 0 true (rest (8 * c) w₁) net r e₁ v net₁
         → Back (8 * c) w₁ v (putMid (8 * c) (length w₁ - 8 * c) w₁ v)
     first-back x = child-back first-lent (x .len)
 
     -- once it is done
-    module _ {net v net₁ w₂ : List ℕ} {e₁ : Extent} (x : Written a (treeOf m may (stageAt a (rest (8 * c) w₁) 0 (cells a))) 0 true (rest (8 * c) w₁) net r e₁ v net₁) (k : Back (8 * c) w₁ v w₂) where
-      first-done : Written (A .ks) (treeOf m may A) 0 true (rest (8 * c) w₁) net r e₁ v net₁
-      first-done = written-as m may A first-stage x
+    module _ {net v net₁ w₂ : List ℕ} {e₁ : Extent} (x : Written a (treeOf how m may (stageAt a (rest (8 * c) w₁) 0 (cells a))) 0 true (rest (8 * c) w₁) net r e₁ v net₁) (k : Back (8 * c) w₁ v w₂) where
+      first-done : Written (A .ks) (treeOf how m may A) 0 true (rest (8 * c) w₁) net r e₁ v net₁
+      first-done = written-as how m may A first-stage x
 
       same-length : length w₂ ≡ length w
       same-length = k .len ∙ f .len
@@ -124,17 +125,17 @@ module _ {gate : Gate} {m : ℕ} {ks : List ℕ} {l : Limits} {s t : ℕ} {may :
           let u = f .second s l (j .tables .second) in
           record { lows = kept-part 0 (omega arith) ∙ u .lows; seconds = sym (there w₂ (λ i. i) o) ∙ kept-part c (omega arith) ∙ there w₁ (λ i. i) o ∙ u .seconds }
 
-      block-here : part w₂ (8 * c) (cells a) ≡ computed (A .ks) (treeOf m may A)
+      block-here : part w₂ (8 * c) (cells a) ≡ computed (A .ks) (treeOf how m may A)
       block-here = child-function first-lent k (first-done .function refl)
 
       given : moved a ks (part w₂ (8 * c) (cells a)) ≡ g
-      given = ap₂ (λ (p q : List ℕ). moved p ks q) (f .places) block-here ∙ sym (first-moved m y ready may gate s t (j .exists))
+      given = ap₂ (λ (p q : List ℕ). moved p ks q) (f .places) block-here ∙ sym (first-moved how m y ready may gate s t (j .exists))
 
-      grade-below : (i : ℕ) → i < cells a → at (computed (A .ks) (treeOf m may A)) i ≤ m - 1
+      grade-below : (i : ℕ) → i < cells a → at (computed (A .ks) (treeOf how m may A)) i ≤ m - 1
       grade-below i h =
           let e = ap cells (f .places) in
-          let b = made-below (A .ks) m (treeOf m may A) (network-ok m may A (first-ready m gate s t y ready (j .exists)) .made) (value (A .ks) i) in
-          let q = computed-at (A .ks) (treeOf m may A) i (omega arith) in
+          let b = made-below (A .ks) m (treeOf how m may A) (network-ok how m may A (first-ready m gate s t y ready (j .exists)) .made) (value (A .ks) i) in
+          let q = computed-at (A .ks) (treeOf how m may A) i (omega arith) in
           omega arith
 
       pub second-room : SecondRoom w₂ ks a m s c
@@ -166,24 +167,24 @@ module _ {gate : Gate} {m : ℕ} {ks : List ℕ} {l : Limits} {s t : ℕ} {may :
         second-stage : stageAt b (rest (8 * c) w₃) 0 (cells b) ≡ B
         second-stage = child-stage second-lent (z .stage t l second-tables ∙ ap (secondStage m gate s t y) given)
 
-        pub second-starts : {n : ℕ} → n ≡ cells b → Starts m b n false true (rest (8 * c) w₃) (e₁ .next)
+        pub second-starts : {n : ℕ} → n ≡ cells b → Starts how m b n false true (rest (8 * c) w₃) (e₁ .next)
         second-starts e =
             let i = j .numbers in
             let p = first-done .put .extent .next in
-            child-starts second-lent (B .limits) e second-stage (second-of m gate s t y ready (j .exists) may) unknown (omega arith)
+            child-starts second-lent (B .limits) e second-stage (second-of how m gate s t y ready (j .exists) may) unknown (omega arith)
 
         pub second-falls : stageRank true b < joinRank may ks
         second-falls = let e = ap width (z .places) in let g = rank-fewer true b ks (let h = j .second .fewer in omega arith) in omega arith
 
-        pub second-back : {want : Bool} {v′ net₂ : List ℕ} {e₂ : Extent} → Written b (treeOf m true (stageAt b (rest (8 * c) w₃) 0 (cells b))) 0 want (rest (8 * c) w₃) net₁ (e₁ .next) e₂ v′ net₂
+        pub second-back : {want : Bool} {v′ net₂ : List ℕ} {e₂ : Extent} → Written b (treeOf how m true (stageAt b (rest (8 * c) w₃) 0 (cells b))) 0 want (rest (8 * c) w₃) net₁ (e₁ .next) e₂ v′ net₂
             → Back (8 * c) w₃ v′ (putMid (8 * c) (length w₃ - 8 * c) w₃ v′)
         second-back x′ = child-back second-lent (x′ .len)
 
         -- both are done
-        module _ {want : Bool} {v′ net₂ w₄ : List ℕ} {e₂ : Extent} (x′ : Written b (treeOf m true (stageAt b (rest (8 * c) w₃) 0 (cells b))) 0 want (rest (8 * c) w₃) net₁ (e₁ .next) e₂ v′ net₂)
+        module _ {want : Bool} {v′ net₂ w₄ : List ℕ} {e₂ : Extent} (x′ : Written b (treeOf how m true (stageAt b (rest (8 * c) w₃) 0 (cells b))) 0 want (rest (8 * c) w₃) net₁ (e₁ .next) e₂ v′ net₂)
             (k′ : Back (8 * c) w₃ v′ w₄) where
-          second-done : Written (B .ks) (treeOf m true B) 0 want (rest (8 * c) w₃) net₁ (e₁ .next) e₂ v′ net₂
-          second-done = written-as m true B second-stage x′
+          second-done : Written (B .ks) (treeOf how m true B) 0 want (rest (8 * c) w₃) net₁ (e₁ .next) e₂ v′ net₂
+          second-done = written-as how m true B second-stage x′
 
           pub close-room : JoinedRoom w₄ ks b c × GateRoom e₁ e₂
           close-room =
@@ -197,25 +198,25 @@ module _ {gate : Gate} {m : ℕ} {ks : List ℕ} {l : Limits} {s t : ℕ} {may :
                 gate-room (first-done .put .extent) (second-done .put .extent) (let i = j .numbers in omega arith),
               )
 
-          first-part : part w₄ (6 * c) (cells ks) ≡ moved (A .ks) ks (computed (A .ks) (treeOf m may A))
+          first-part : part w₄ (6 * c) (cells ks) ≡ moved (A .ks) ks (computed (A .ks) (treeOf how m may A))
           first-part =
               let o = j .left .own .own in
               let q = j .left .work in
               let n = whole-length in
               back-front (6 * c) (cells ks) k′ (omega arith) (omega arith) ∙ z .first ∙ ap₂ (λ (p q : List ℕ). moved p ks q) (f .places) block-here
 
-          second-part : want ≡ true → moved b ks (part w₄ (8 * c) (cells b)) ≡ moved (B .ks) ks (computed (B .ks) (treeOf m true B))
+          second-part : want ≡ true → moved b ks (part w₄ (8 * c) (cells b)) ≡ moved (B .ks) ks (computed (B .ks) (treeOf how m true B))
           second-part h =
               ap₂ (λ (p q : List ℕ). moved p ks q) (z .places) (child-function second-lent k′ (second-done .function h))
 
-          pub joined-whole : {of : Extent} {w₅ net₃ : List ℕ} → Closed gate ks b c e₁ e₂ want w₄ net₂ of w₅ net₃ → Written ks (joinTree m (treeOf m) may gate s t y) 0 want w net r of w₅ net₃
+          pub joined-whole : {of : Extent} {w₅ net₃ : List ℕ} → Closed gate ks b c e₁ e₂ want w₄ net₂ of w₅ net₃ → Written ks (joinTree m (treeOf how m) may gate s t y) 0 want w net r of w₅ net₃
           joined-whole d =
               record {
                 put = tree-gate (first-done .put) (second-done .put) (d .gate);
                 function = λ h.
                     d .function .on h .here
                     ∙ ap₂ (λ (p q : List ℕ). tabulate (cells ks) (λ i. combine gate (at p i) (at q i))) first-part (second-part h)
-                    ∙ sym (joined m y ready may gate s t (j .exists));
+                    ∙ sym (joined how m y ready may gate s t (j .exists));
                 len = wanted-length (d .function) (λ f. f .len) ∙ k′ .len ∙ whole-length;
               }
 

@@ -7,6 +7,7 @@ use native.Mathlib.Omega.{arith}
 use borrow.Rule.Slice.PartMut.{putMid}
 use lib.Dec.{T}
 use lib.ListN.{length}
+use Rattle.rules.specs.declared.Settings.{Settings}
 use Rattle.rules.specs.Bytes.{pick}
 use Rattle.rules.specs.Cell.{Positive, cells, card, present, width, has, without}
 use Rattle.rules.specs.Limits.{Limits}
@@ -34,9 +35,9 @@ few-without t ks h i =
     by-test (has t i) (λ b. let e = card-in t ks i b in omega arith) (λ n. let e = card-out t ks i n in let l = h i in omega arith)
 
 -- what the buffer holds is the stage A
-module _ (m : ℕ) (may : Bool) {a w : List ℕ} (A : Stage) (e : stageAt a w 0 (cells a) ≡ A) where
+module _ (how : Settings) (m : ℕ) (may : Bool) {a w : List ℕ} (A : Stage) (e : stageAt a w 0 (cells a) ≡ A) where
   pub starts-as : {c r : ℕ} {known : Bool} → c ≡ cells a → Shaped (A .ks) → ((i : ℕ) → card (A .ks) i ≤ 8) → 24 * cells (A .ks) ≤ length w
-      → (may ≡ true → 32 * cells (A .ks) ≤ length w) → Ready m A → (known ≡ true → Known m a w) → Numbered (treeOf m may A) r → Starts m a c known may w r
+      → (may ≡ true → 32 * cells (A .ks) ≤ length w) → Ready m A → (known ≡ true → Known m a w) → Numbered (treeOf how m may A) r → Starts how m a c known may w r
   starts-as {c} {r} o s f l g p k t =
       record {
         own = o;
@@ -46,12 +47,12 @@ module _ (m : ℕ) (may : Bool) {a w : List ℕ} (A : Stage) (e : stageAt a w 0 
         more = λ h. subst (λ (x : Stage). 32 * cells (x .ks) ≤ length w) (sym e) (g h);
         proper = subst (Proper m) (sym e) (ready-proper p);
         masks = k;
-        numbers = subst (λ (x : Stage). Numbered (treeOf m may x) r) (sym e) t;
+        numbers = subst (λ (x : Stage). Numbered (treeOf how m may x) r) (sym e) t;
       }
 
   pub written-as : {want : Bool} {net : List ℕ} {r : ℕ} {of : Extent} {w′ net′ : List ℕ}
-      → Written a (treeOf m may (stageAt a w 0 (cells a))) 0 want w net r of w′ net′ → Written (A .ks) (treeOf m may A) 0 want w net r of w′ net′
-  written-as {want} {net} {r} {of} {w′} {net′} h = subst (λ (x : Stage). Written (x .ks) (treeOf m may x) 0 want w net r of w′ net′) e h
+      → Written a (treeOf how m may (stageAt a w 0 (cells a))) 0 want w net r of w′ net′ → Written (A .ks) (treeOf how m may A) 0 want w net r of w′ net′
+  written-as {want} {net} {r} {of} {w′} {net′} h = subst (λ (x : Stage). Written (x .ks) (treeOf how m may x) 0 want w net r of w′ net′) e h
 
 -- without a set of which the places have a condition, there are fewer conditions
 pub smaller : (ks : List ℕ) (d : ℕ) → Positive ks → ((i : ℕ) × T (has d i)) → ((i : ℕ) → T (has d i) → T (present ks i)) → Smaller ks d
@@ -80,7 +81,7 @@ pub rank-fewer : (may : Bool) (a ks : List ℕ) → width a < width ks → stage
 rank-fewer true a ks h = omega arith
 rank-fewer false a ks h = omega arith
 
-pub divide-some : (may : Bool) (ks : List ℕ) → 16 * width ks < divideRank may ks
+pub divide-some : (may : Bool) (ks : List ℕ) → 16 * width ks + 1 < divideRank may ks
 divide-some true ks = omega arith
 divide-some false ks = omega arith
 
@@ -107,14 +108,14 @@ module _ {m : ℕ} {y : Stage} {c : ℕ} {w : List ℕ} {d : ℕ} {may : Bool} {
   pub child-stage : {A : Stage} → stageAt a v (8 * c) (8 * c + cells a) ≡ A → stageAt a (rest (8 * c) v) 0 (cells a) ≡ A
   child-stage q = rest-stage (8 * c) a v behind ∙ q
 
-  pub child-starts : {k r : ℕ} {known : Bool} (l : Limits) → k ≡ cells a → stageAt a (rest (8 * c) v) 0 (cells a) ≡ stageOf (without d (y .ks)) l
-      → Ready m (stageOf (without d (y .ks)) l) → (known ≡ true → Known m a (rest (8 * c) v)) → Numbered (treeOf m may (stageOf (without d (y .ks)) l)) r
-      → Starts m a k known may (rest (8 * c) v) r
-  child-starts l i q p g f =
+  pub child-starts : {how : Settings} {k r : ℕ} {known : Bool} (l : Limits) → k ≡ cells a → stageAt a (rest (8 * c) v) 0 (cells a) ≡ stageOf (without d (y .ks)) l
+      → Ready m (stageOf (without d (y .ks)) l) → (known ≡ true → Known m a (rest (8 * c) v)) → Numbered (treeOf how m may (stageOf (without d (y .ks)) l)) r
+      → Starts how m a k known may (rest (8 * c) v) r
+  child-starts {how} l i q p g f =
       let t = z .room .work in
       let n = z .len in
       let k = rest-length (8 * c) v in
-      starts-as m may (stageOf (without d (y .ks)) l) q i (fewer-shaped d (z .left .own .shaped)) (few-without d (y .ks) (z .left .few)) (omega arith)
+      starts-as how m may (stageOf (without d (y .ks)) l) q i (fewer-shaped d (z .left .own .shaped)) (few-without d (y .ks) (z .left .few)) (omega arith)
       (λ e. let u = z .room .more e in omega arith) p g f
 
   pub child-back : {u : List ℕ} → length u ≡ length (rest (8 * c) v) → Back (8 * c) v u (putMid (8 * c) (length v - 8 * c) v u)

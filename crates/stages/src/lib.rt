@@ -7,24 +7,38 @@ use places::sets::Condition;
 use rules::Gate;
 use rules::PLACES;
 use stage_choice::Choice;
+use stage_steps::cuts;
+use stage_steps::cuts::Cut;
 use stage_steps::ends;
 use stage_steps::gates::Extent;
 use stage_steps::values;
 use weak_joins::Candidates;
 use weak_joins::Weak;
-ghost use Prim.Native.Nat.{_<_};
+ghost use Prim.Native.Nat.{_≤_, _<_};
 ghost use mathlib.Core.Path.{_≡_};
-ghost use mathlib.Core.Bool.{_||_};
+ghost use mathlib.Core.Bool.{_&&_, _||_};
 ghost use lib.Dec.{ltb};
-ghost use Rattle.rules.specs.Cell.{singleton};
-ghost use Rattle.rules.specs.Stage.{weakly, tried, fewest, treeOf};
+ghost use Rattle.rules.specs.Cell.{width, singleton};
+ghost use Rattle.rules.specs.Settings.{settingsOf};
+ghost use Rattle.rules.specs.Stage.{weakly, fewest, treeOf};
 ghost use Rattle.places.specs.Conditions.{IsLowest};
+ghost use Rattle.tables.specs.Part.{Shaped};
 ghost use Rattle.stage_drops.specs.Working.{frontStage};
-ghost use Rattle.stages.specs.Staging.{Starts, Written, Numbered, Splits, Divided, CanJoin, Joined, Tries, Counted, Divides};
+ghost use Rattle.stage_steps.specs.Cuts.{IsCut};
+ghost use Rattle.stages.specs.Staging.{Starts, Written, Numbered, splitsOn, Splits, Divided, CanJoin, Joined, Tries, Counted, triedIf, Divides};
 
-// Step 6: a stage for each value of the lowest condition, with a literal before it and gates behind it. Each is lent
-// the limits of its cells and, since a split leaves them true, their masks. Their functions are collected in part 4,
-// and what stands before it stays.
+// The condition that a split takes.
+fn split_on(ks: [u8; PLACES], low: Condition, how: u8) -> Cut
+    requires { ⌜ Shaped ks × IsLowest ks low × (1 ≤ width ks) ⌝ }
+    ensures { λ r. ⌜ IsCut ks (splitsOn how ks) r ⌝ }
+{
+    cuts::find(ks, low, settings::splits(how))
+}
+
+// Step 6: a stage for each value, with a literal before it and gates behind it. Each is lent the limits of its cells
+// and, since a split leaves them true, their masks. Their functions are collected in part 4, and what stands before it
+// stays. Of a row and the distance to the next the compiler is told no more than that these are numbers: a distance
+// that it knew by the name of the values alone would have it make a loop more, for a condition of one value.
 fn split(
     w: &mut [u8],
     network: &mut [u8],
@@ -34,18 +48,34 @@ fn split(
     c: usize,
     r: usize,
     want: bool,
+    how: u8,
 ) -> Extent
-    requires { ⌜ Splits m ks c (now w) r × IsLowest ks low ⌝ }
-    ensures { λ of. ⌜ Divided m ks c want (now (w .entry)) (now (network .entry)) r of (now (w .exit)) (now (network .exit)) ⌝ }
+    requires { ⌜ Splits (settingsOf how) m (splitsOn how ks) ks c (now w) r × IsLowest ks low ⌝ }
+    ensures { λ of. ⌜ Divided (settingsOf how) m (splitsOn how ks) ks c want (now (w .entry)) (now (network .entry)) r of (now (w .exit)) (now (network .exit)) ⌝ }
 {
-    let i = low.number;
-    let values = low.values;
+    let on = split_on(ks, low, how);
+    let i = on.number;
+    let values = on.values;
+    let step = on.step;
     let b = sets::without_one(ks, i);
     let n = c / values;
+    let apart = step * values;
     let rest = 8 * c;
     let mut total = Extent { next: r, depth: 0 };
     for k in 0..values {
-        let literal = values::begin_value(w, network, i as u8, values, n, c, k, m - 1, total.next);
+        let literal = values::begin_value(
+            w,
+            network,
+            i as u8,
+            step,
+            apart,
+            values,
+            n,
+            c,
+            k,
+            m - 1,
+            total.next,
+        );
         let of = stage(
             &mut w[rest..],
             network,
@@ -56,8 +86,9 @@ fn split(
             true,
             true,
             want,
+            how,
         );
-        values::keep_value(w, want, n, values, c, k);
+        values::keep_value(w, want, n, step, apart, values, c, k);
         total = values::end_value(network, k, total, literal, of);
     }
     total
@@ -76,9 +107,10 @@ fn join(
     may: bool,
     r: usize,
     want: bool,
+    how: u8,
 ) -> Extent
-    requires { ⌜ CanJoin gate m ks (of .s) (of .t) may c (now w) r ⌝ }
-    ensures { λ n. ⌜ Joined gate m ks (of .s) (of .t) may c want (now (w .entry)) (now (network .entry)) r n (now (w .exit)) (now (network .exit)) ⌝ }
+    requires { ⌜ CanJoin (settingsOf how) gate m ks (of .s) (of .t) may c (now w) r ⌝ }
+    ensures { λ n. ⌜ Joined (settingsOf how) gate m ks (of .s) (of .t) may c want (now (w .entry)) (now (network .entry)) r n (now (w .exit)) (now (network .exit)) ⌝ }
 {
     let rest = 8 * c;
     let first_block = stage_blocks::first_table(w, gate, m, ks, of.t, c);
@@ -93,6 +125,7 @@ fn join(
         false,
         may,
         true,
+        how,
     );
     let second_block = stage_blocks::second_table(w, gate, m, ks, a, of.s, c);
     let b = second_block.places;
@@ -106,6 +139,7 @@ fn join(
         false,
         true,
         want,
+        how,
     );
     ends::close_join(w, network, gate, ks, b, c, first, second, want)
 }
@@ -133,14 +167,15 @@ fn count_both(
     gate: Gate,
     i: usize,
     want: bool,
+    how: u8,
 ) -> Candidates
-    requires { ⌜ Tries m ks i c (now w) × IsLowest ks low ⌝ }
-    ensures { λ of. ⌜ Counted gate m ks i c want (now (w .entry)) of (now (w .exit)) ⌝ }
+    requires { ⌜ Tries (settingsOf how) m (splitsOn how ks) ks i c (now w) × IsLowest ks low ⌝ }
+    ensures { λ of. ⌜ Counted (settingsOf how) gate m (splitsOn how ks) ks i c want (now (w .entry)) of (now (w .exit)) ⌝ }
 {
     let mut none = [0u8; 0];
-    let split = split(w, &mut none, ks, low, m, c, 0, want);
+    let split = split(w, &mut none, ks, low, m, c, 0, want, how);
     weak_joins::open(w, gate, m, ks, i, c);
-    let weak = join(w, &mut none, ks, m, c, gate, alone(i), false, 0, want);
+    let weak = join(w, &mut none, ks, m, c, gate, alone(i), false, 0, want, how);
     Candidates { split, weak }
 }
 
@@ -157,26 +192,27 @@ fn shorter(
     i: usize,
     r: usize,
     want: bool,
+    how: u8,
 ) -> Extent
-    requires { ⌜ Tries m ks i c (now w) × IsLowest ks low × Numbered (fewest m (treeOf m) (weakly gate i) (frontStage ks (now w))) r ⌝ }
-    ensures { λ of. ⌜ Written ks (fewest m (treeOf m) (weakly gate i) (frontStage ks (now (w .entry)))) 0 want (now (w .entry)) (now (network .entry)) r of (now (w .exit)) (now (network .exit)) ⌝ }
+    requires { ⌜ Tries (settingsOf how) m (splitsOn how ks) ks i c (now w) × IsLowest ks low × Numbered (fewest m (treeOf (settingsOf how) m) (weakly gate i) (splitsOn how ks) (frontStage ks (now w))) r ⌝ }
+    ensures { λ of. ⌜ Written ks (fewest m (treeOf (settingsOf how) m) (weakly gate i) (splitsOn how ks) (frontStage ks (now (w .entry)))) 0 want (now (w .entry)) (now (network .entry)) r of (now (w .exit)) (now (network .exit)) ⌝ }
 {
     if network.len() == 0 {
-        let counted = count_both(w, ks, low, m, c, gate, i, want);
+        let counted = count_both(w, ks, low, m, c, gate, i, want, how);
         return weak_joins::keep(w, counted, c, r, want);
     }
-    let counted = count_both(w, ks, low, m, c, gate, i, false);
+    let counted = count_both(w, ks, low, m, c, gate, i, false, how);
     if counted.weak.next < counted.split.next {
         weak_joins::reopen(w, ks, i, c);
-        return join(w, network, ks, m, c, gate, alone(i), false, r, want);
+        return join(w, network, ks, m, c, gate, alone(i), false, r, want, how);
     }
     weak_joins::restore(w, gate, m, ks, c);
-    let of = split(w, network, ks, low, m, c, r, want);
+    let of = split(w, network, ks, low, m, c, r, want, how);
     values::collect(w, want, c);
     of
 }
 
-// Where no two sets join: a split, or the weak join that takes its place.
+// Where no two sets join: a split, or the weak join that takes its place, if one is to be tried.
 fn divide(
     w: &mut [u8],
     network: &mut [u8],
@@ -185,26 +221,31 @@ fn divide(
     m: u8,
     c: usize,
     r: usize,
-    may: bool,
+    sought: bool,
     want: bool,
+    how: u8,
 ) -> Extent
-    requires { ⌜ Divides m ks c may (now w) r × IsLowest ks low ⌝ }
-    ensures { λ of. ⌜ Written ks (fewest m (treeOf m) (tried m may (frontStage ks (now (w .entry)))) (frontStage ks (now (w .entry)))) 0 want (now (w .entry)) (now (network .entry)) r of (now (w .exit)) (now (network .exit)) ⌝ }
+    requires { ⌜ Divides (settingsOf how) m (splitsOn how ks) ks c sought (now w) r × IsLowest ks low ⌝ }
+    ensures { λ of. ⌜ Written ks (fewest m (treeOf (settingsOf how) m) (triedIf m sought (frontStage ks (now (w .entry)))) (splitsOn how ks) (frontStage ks (now (w .entry)))) 0 want (now (w .entry)) (now (network .entry)) r of (now (w .exit)) (now (network .exit)) ⌝ }
 {
-    match weak_joins::first_weak(w, ks, m, c, may) {
-        Weak::At(gate, i) => shorter(w, network, ks, low, m, c, gate, i, r, want),
+    match weak_joins::first_weak(w, ks, m, c, sought) {
+        Weak::At(gate, i) => shorter(w, network, ks, low, m, c, gate, i, r, want, how),
         Weak::Nowhere => {
-            let of = split(w, network, ks, low, m, c, r, want);
+            let of = split(w, network, ks, low, m, c, r, want, how);
             values::collect(w, want, c);
             of
         }
     }
 }
 
-// Whether a stage of c cells, of which n are left, may take a weak join: if it might before, or has lost a condition.
-fn may_still(may: bool, n: usize, c: usize) -> bool
-    ensures { λ r. ⌜ r ≡ (may || ltb n c) ⌝ }
+// Whether a stage of c cells, of which n are left, tries a weak join: where these are tried at all, if it might before, or
+// has lost a condition.
+fn tries(how: u8, may: bool, n: usize, c: usize) -> bool
+    ensures { λ r. ⌜ r ≡ (settingsOf how .weak && (may || ltb n c)) ⌝ }
 {
+    if !settings::weak(how) {
+        return false;
+    }
     if may { true } else { n < c }
 }
 
@@ -221,19 +262,33 @@ pub fn stage(
     known: bool,
     may: bool,
     want: bool,
+    how: u8,
 ) -> Extent
-    requires { ⌜ Starts m ks c known may (now w) r ⌝ }
-    ensures { λ of. ⌜ Written ks (treeOf m may (frontStage ks (now (w .entry)))) 0 want (now (w .entry)) (now (network .entry)) r of (now (w .exit)) (now (network .exit)) ⌝ }
+    requires { ⌜ Starts (settingsOf how) m ks c known may (now w) r ⌝ }
+    ensures { λ of. ⌜ Written ks (treeOf (settingsOf how) m may (frontStage ks (now (w .entry)))) 0 want (now (w .entry)) (now (network .entry)) r of (now (w .exit)) (now (network .exit)) ⌝ }
 {
-    let plan = stage_plan::plan_stage(w, ks, m, c, known);
+    let plan = stage_plan::plan_stage(w, ks, m, c, known, how);
     let left = plan.places;
     let n = plan.cells;
     let low = plan.low;
     let choice = plan.choice;
     let of = match choice {
         Choice::Leaf => ends::leaf(w, network, low, r),
-        Choice::Split => divide(w, network, left, low, m, n, r, may_still(may, n, c), want),
-        Choice::Join(gate, sets) => join(w, network, left, m, n, gate, sets, true, r, want),
+        Choice::Split => {
+            divide(
+                w,
+                network,
+                left,
+                low,
+                m,
+                n,
+                r,
+                tries(how, may, n, c),
+                want,
+                how,
+            )
+        }
+        Choice::Join(gate, sets) => join(w, network, left, m, n, gate, sets, true, r, want, how),
     };
     ends::spread_if(w, want, left, ks, n, c);
     of

@@ -12,6 +12,7 @@ use lib.Seq.{take-at}
 use Rattle.rules.specs.declared.Edition.the-variants.{Ours}
 use Rattle.rules.specs.declared.Refusal.the-variants.{ShapeRange, ShortBuffer, GradeLimits}
 use Rattle.rules.specs.Bytes.{at, all, recordAt}
+use Rattle.rules.specs.declared.Settings.{Settings}
 use Rattle.rules.specs.Cell.{cells}
 use Rattle.rules.specs.Limits.{limitsSound, limitsOf}
 use Rattle.rules.specs.Shape.{maxConditions, maxCardinality, maxGrades, placeSound, places, shapeSound}
@@ -90,24 +91,24 @@ module _ (file : List ℕ) (s : Seen) (a : Accepted Ours file s) where
     long-enough : (l b : List ℕ) {t : List ℕ} → t ≡ l ++ b → length l ≡ cells ks → leb (cells ks) (length t) ≡ true
     long-enough l b {t} e h = le-leb (cells ks) (length t) (omega (arith, ap length e, length-append l b))
 
-    module _ (work network : ℕ) (work-room : 32 * cells ks ≤ work) (network-room : 16 * mostRecords (cells ks) ≤ network) where
+    module _ (how : Settings) (work network : ℕ) (work-room : 32 * cells ks ≤ work) (network-room : 16 * mostRecords (cells ks) ≤ network) where
       room : compileRoom (cells ks) (length lower′) (length upper′) work network ≡ true
       room =
           let long = limits-long in
           and-both (and-both (and-both (long-enough (fileLimits file s .lower) (drop (cells ks) lower) low (long .0)) (and-both (long-enough (fileLimits file s .upper) (drop (cells ks) upper) high (long .1)) refl)) (le-leb _ _ work-room)) (le-leb _ _ network-room)
 
-      pub file-compiles : compileCall (s .n) (s .cards) (s .m) (length lower′) (length upper′) work network (lentLimits ks lower′ upper′)
-          ≡ accepted (compiledRecords ks (s .m) (fileLimits file s))
+      pub file-compiles : compileCall how (s .n) (s .cards) (s .m) (length lower′) (length upper′) work network (lentLimits ks lower′ upper′)
+          ≡ accepted (compiledRecords how ks (s .m) (fileLimits file s))
       file-compiles =
-          ap (compileCall (s .n) (s .cards) (s .m) (length lower′) (length upper′) work network) limits-lent
+          ap (compileCall how (s .n) (s .cards) (s .m) (length lower′) (length upper′) work network) limits-lent
           ∙ row-pass ShapeRange _ (passed (shapeSound (s .n) (s .cards) (s .m)) shape-sound) ∙ row-pass ShortBuffer _ room ∙ row-pass GradeLimits _ (passed (limitsSound ks (s .m) (fileLimits file s)) limits-sound)
 
       -- the same of the shape that reading answers
       abbrev shape : Shape
       shape = shapeFrom (s .n) (s .cards) (s .m)
 
-      pub table-compiles : compileCall (shape .n) (cardsOf shape) (shape .m) (length lower′) (length upper′) work network (lentLimits (placesOf shape) lower′ upper′)
-          ≡ accepted (compiledRecords ks (s .m) (fileLimits file s))
+      pub table-compiles : compileCall how (shape .n) (cardsOf shape) (shape .m) (length lower′) (length upper′) work network (lentLimits (placesOf shape) lower′ upper′)
+          ≡ accepted (compiledRecords how ks (s .m) (fileLimits file s))
       table-compiles =
-          ap (λ (cards : List ℕ). compileCall (s .n) cards (s .m) (length lower′) (length upper′) work network (lentLimits (places cards) lower′ upper′)) (cards-from (s .n) (s .cards) (s .m) (a .kept .eight))
+          ap (λ (cards : List ℕ). compileCall how (s .n) cards (s .m) (length lower′) (length upper′) work network (lentLimits (places cards) lower′ upper′)) (cards-from (s .n) (s .cards) (s .m) (a .kept .eight))
           ∙ file-compiles

@@ -16,7 +16,7 @@ use Rattle.rules.specs.Bytes.{at, numbersFrom}
 use Rattle.rules.specs.Cell.{cells, present, has, singleton, leastOver}
 use Rattle.rules.specs.Limits.{Limits}
 use Rattle.rules.specs.Join.{exchangeFor, weakCounts}
-use Rattle.rules.specs.Stage.{Stage, nowhere, weakly, firstWeak, weakFound, tried}
+use Rattle.rules.specs.Stage.{Stage, nowhere, weakly, firstWeak, weakFound}
 use Rattle.laws.proofs.TestLaws.{passes, passed, and-l, and-r, and-i}
 use Rattle.laws.proofs.TableLaws.{all-same}
 use Rattle.laws.proofs.SetLaws.{has-and}
@@ -144,6 +144,6 @@ module _ {m : ℕ} {ks w : List ℕ} {n : ℕ} (room : Room w ks n) (proper : Pr
           sym (counts-is ks m l op (part w (maskPart op (cells ks)) (cells ks)) i (proper-good proper) (k .masks op) (common op) (omega (arith, present-lt ks i t)) t)
 
 -- none is tried where that may not be
-pub tried-by : (m : ℕ) (may : Bool) (x : Stage) (b : Bool) → not may ≡ b → cond b nowhere (weakFound m x) ≡ tried m may x
+pub tried-by : (m : ℕ) (may : Bool) (x : Stage) (b : Bool) → not may ≡ b → cond b nowhere (weakFound m x) ≡ cond may (weakFound m x) nowhere
 tried-by m true x b e = ap (λ (q : Bool). cond q nowhere (weakFound m x)) (sym e)
 tried-by m false x b e = ap (λ (q : Bool). cond q nowhere (weakFound m x)) (sym e)

@@ -11,9 +11,10 @@ use stage_steps::values;
 use tables::fill;
 ghost use Prim.Native.Nat.{_+_, _*_, _≤_, _<_};
 ghost use mathlib.Core.Path.{_≡_};
+ghost use mathlib.Core.Bool.{cond};
 ghost use lib.ListN.{length};
 ghost use Rattle.rules.specs.Bytes.{pick, numbersFrom};
-ghost use Rattle.rules.specs.Stage.{firstWeak, tried};
+ghost use Rattle.rules.specs.Stage.{nowhere, firstWeak, weakFound};
 ghost use lib.Dec.{eqb};
 ghost use Rattle.tables.specs.Part.{part};
 ghost use Rattle.masks.specs.Masks.{Known};
@@ -75,11 +76,11 @@ fn first_lacking(ks: [u8; PLACES], by_max: u8, by_min: u8) -> Weak
     Weak::Nowhere
 }
 
-// The weak join that the stage at the front tries, from its masks: a condition counts by a gate unless all cells refuse
+// The weak join that the stage at the front tries, if it may, from its masks: a condition counts by a gate unless all cells refuse
 // it. Cells with a lower grade of 0 are not asked for max, nor those with the greatest upper grade for min.
 pub fn first_weak(w: &[u8], ks: [u8; PLACES], m: u8, n: usize, may: bool) -> Weak
     requires { ⌜ Room (now w) ks n × Proper m (frontStage ks (now w)) × Known m ks (now w) ⌝ }
-    ensures { λ r. ⌜ weakOf r ≡ tried m may (frontStage ks (now (w .entry))) ⌝ }
+    ensures { λ r. ⌜ weakOf r ≡ cond may (weakFound m (frontStage ks (now (w .entry)))) nowhere ⌝ }
 {
     if !may {
         return Weak::Nowhere;

@@ -10,6 +10,7 @@ use lib.ListN.{length, take, drop, length-take}
 use lib.Seq.{getD-take}
 use Rattle.rules.specs.declared.Edition.the-variants.{Ours}
 use Rattle.rules.specs.declared.Refusal.the-variants.{ShapeRange, ShortBuffer, GradeLimits, Network, CellNumber}
+use Rattle.rules.specs.declared.Settings.{Settings}
 use Rattle.rules.specs.Bytes.{at}
 use Rattle.rules.specs.Cell.{cells}
 use Rattle.rules.specs.Shape.{places}
@@ -46,7 +47,7 @@ use Rattle.whole_path.specs.WholePath.{Obeys, Followed, WholePath}
 use Rattle.panel_answers.proofs.ShapeLaws.{called, lent-accepted, ten-lent}
 
 -- n records were compiled
-module _ (bytes lower upper work network : List ℕ) (n : ℕ) (work′ network′ : List ℕ) (done : Compiles bytes lower upper work network n work′ network′) (counted : n < 65536) where
+module _ (how : Settings) (bytes lower upper work network : List ℕ) (n : ℕ) (work′ network′ : List ℕ) (done : Compiles how bytes lower upper work network n work′ network′) (counted : n < 65536) where
   abbrev shape : Shape
   shape = lentShape bytes
 
@@ -66,7 +67,7 @@ module _ (bytes lower upper work network : List ℕ) (n : ℕ) (work′ network�
 
   pass : Passed
   pass =
-      let rows : Shape → Verdict (List Record) = λ s. compileRows s lower upper work network in
+      let rows : Shape → Verdict (List Record) = λ s. compileRows how s lower upper work network in
       let v = called (lent bytes rows) length (subst (λ (k : ℕ). k < 65536) (done .answer) counted) in
       let l = lent-accepted bytes rows (v .1) in
       let a = row-passed (isSound shape) ShapeRange _ (l .1) in
@@ -179,40 +180,40 @@ module _ (file shape lower upper shape′ lower′ upper′ : List ℕ) (got : R
   obeys : (cell q : ℕ) → cell < cells (places (s .cards)) → Between (limitsOf lower′ upper′) cell q → Obeys file s cell q
   obeys cell q h b = record { within = at-file cell q h b; unforeseen = λ none. omega (arith, listed .unlisted cell h none .0, b .0) }
 
-  module _ (work network work′ network′ : List ℕ) (n : ℕ) (work-room : compileWork (lentCells (take 10 shape′)) ≤ length work) (network-room : 16 * mostRecords (lentCells (take 10 shape′)) ≤ length network)
-      (done : Compiles (take 10 shape′) lower′ upper′ work network n work′ network′) where
+  module _ (how : Settings) (work network work′ network′ : List ℕ) (n : ℕ) (work-room : compileWork (lentCells (take 10 shape′)) ≤ length work) (network-room : 16 * mostRecords (lentCells (take 10 shape′)) ≤ length network)
+      (done : Compiles how (take 10 shape′) lower′ upper′ work network n work′ network′) where
     abbrev rows : Shape → Verdict (List Record)
-    rows y = compileRows y lower′ upper′ work network
+    rows y = compileRows how y lower′ upper′ work network
 
-    accepts : lent (take 10 shape′) rows ≡ accepted (compiledRecords (places (s .cards)) (s .m) (fileLimits file s))
+    accepts : lent (take 10 shape′) rows ≡ accepted (compiledRecords how (places (s .cards)) (s .m) (fileLimits file s))
     accepts =
         ap (λ (b : List ℕ). lent b rows) bytes
-        ∙ table-compiles file s whole lower upper lower′ upper′ lower-is upper-is (length work) (length network)
+        ∙ table-compiles file s whole lower upper lower′ upper′ lower-is upper-is how (length work) (length network)
         (subst (λ (c : ℕ). compileWork c ≤ length work) same-cells work-room) (subst (λ (c : ℕ). 16 * mostRecords c ≤ length network) same-cells network-room)
 
     counted : n < 65536
-    counted = omega (arith, done .answer ∙ ap (λ (v : Verdict (List Record)). callNumber v length) accepts, few-compiled (file-table file s whole))
+    counted = omega (arith, done .answer ∙ ap (λ (v : Verdict (List Record)). callNumber v length) accepts, few-compiled how (file-table file s whole))
 
     here : (cell : ℕ) → cell < cells (places (s .cards)) → cell < lentCells (take 10 shape′)
     here cell h = subst (λ (c : ℕ). cell < c) (sym same-cells) h
 
-    pub followed : Followed file shape′ lower′ upper′ n network′
+    pub followed : Followed how file shape′ lower′ upper′ n network′
     followed =
         record {
           table = s;
           holds = judged;
           compiled = counted;
           evaluated = λ cell h w after q room found.
-              obeys cell q h (evaluates-within (take 10 shape′) lower′ upper′ work network n work′ network′ done counted w room cell (here cell h) after q found);
+              obeys cell q h (evaluates-within how (take 10 shape′) lower′ upper′ work network n work′ network′ done counted w room cell (here cell h) after q found);
           visited = λ visits grades w grades′ w′ r room long found.
-              let v = visits-within (take 10 shape′) lower′ upper′ work network n work′ network′ done counted w room long found in
+              let v = visits-within how (take 10 shape′) lower′ upper′ work network n work′ network′ done counted w room long found in
               (v .0, λ i k h. obeys (at visits i) (at grades′ i) h (v .1 i k (here (at visits i) h)));
-          checked = λ w after r room found. checks-within (take 10 shape′) lower′ upper′ work network n work′ network′ done counted w room after r found;
+          checked = λ w after r room found. checks-within how (take 10 shape′) lower′ upper′ work network n work′ network′ done counted w room after r found;
           foretold = λ w depth w′ depth′ count found h.
               let f = found .foretells h work network work′ network′ n done counted in
               (f .0, f .1 ∙ ap (λ (ks : List ℕ). networkDepth (networkRecords ks (take (16 * n) network′))) lent-places);
         }
 
 pub whole-path : WholePath
-whole-path file shape lower upper shape′ lower′ upper′ got work network work′ network′ n work-room network-room done =
-    followed file shape lower upper shape′ lower′ upper′ got work network work′ network′ n work-room network-room done
+whole-path how file shape lower upper shape′ lower′ upper′ got work network work′ network′ n work-room network-room done =
+    followed file shape lower upper shape′ lower′ upper′ got how work network work′ network′ n work-room network-room done

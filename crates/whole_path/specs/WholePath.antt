@@ -6,6 +6,7 @@ use mathlib.Core.Path.{_≡_}
 use mathlib.Core.List.{List}
 use lib.ListN.{length, take}
 use Rattle.rules.specs.declared.Edition.the-variants.{Ours}
+use Rattle.rules.specs.declared.Settings.{Settings}
 use Rattle.rules.specs.Bytes.{at, word}
 use Rattle.rules.specs.Cell.{cells}
 use Rattle.rules.specs.Shape.{places}
@@ -31,7 +32,7 @@ pub record Obeys (file : List ℕ) (table : Seen) (cell grade : ℕ) : Type 0 wh
   pub unforeseen : Unlisted file (places (table .cards)) cell → 1 ≤ grade
 
 -- what reading has written: ten bytes of shape and the limits; and what compiling these has: n records at the front of the network buffer
-module _ (file shape lower upper : List ℕ) (n : ℕ) (network : List ℕ) where
+module _ (how : Settings) (file shape lower upper : List ℕ) (n : ℕ) (network : List ℕ) where
   abbrev pub shapeLent : List ℕ
   shapeLent = take 10 shape
 
@@ -54,12 +55,12 @@ module _ (file shape lower upper : List ℕ) (n : ℕ) (network : List ℕ) wher
     -- a check of it against the limits that were read finds every cell within
     pub checked : (work after : List ℕ) (answer : ℕ) → n ≤ length work → Checks networkLent shapeLent lower upper work answer after → answer ≡ 0
     -- a forecast of what was read has told how many records these are, and how deep
-    pub foretold : (work depth work′ depth′ : List ℕ) (count : ℕ) → Forecasts shapeLent lower upper work depth count work′ depth′ → count < 65536
+    pub foretold : (work depth work′ depth′ : List ℕ) (count : ℕ) → Forecasts how shapeLent lower upper work depth count work′ depth′ → count < 65536
         → (count ≡ n) × (word depth′ 0 ≡ networkDepth (networkRecords (places (table .cards)) networkLent))
 
--- a file that reading accepts, whatever the buffers held before, and compiling with room for the table that it holds
+-- a file that reading accepts, whatever the buffers held before, and compiling, under whatever settings, with room for the table that it holds
 abbrev pub WholePath : Type 0
-WholePath = (file shape lower upper shape′ lower′ upper′ : List ℕ) → Reads file shape lower upper 0 shape′ lower′ upper′
+WholePath = (how : Settings) (file shape lower upper shape′ lower′ upper′ : List ℕ) → Reads file shape lower upper 0 shape′ lower′ upper′
     → (work network work′ network′ : List ℕ) (n : ℕ) → compileWork (lentCells (take 10 shape′)) ≤ length work → 16 * mostRecords (lentCells (take 10 shape′)) ≤ length network
-    → Compiles (take 10 shape′) lower′ upper′ work network n work′ network′
-    → Followed file shape′ lower′ upper′ n network′
+    → Compiles how (take 10 shape′) lower′ upper′ work network n work′ network′
+    → Followed how file shape′ lower′ upper′ n network′

@@ -1,4 +1,5 @@
 -- `grouping::keeps_max` meets its contract.
+use mathlib.Core.Path.{_∙_}
 use native.Mathlib.Omega.{arith}
 use Rattle.grouping.proofs.KeepsLaws.{Counts, counts-low, keeps-tie, keeps-more}
 use borrow.Author.Needs.{needs}
@@ -36,8 +37,13 @@ difference-requires c κs = search needs
 difference-requires-2 : tie.Need-difference-requires-2
 difference-requires-2 c κs = search needs
 
+less-or-tie-requires : tie.Need-less-or-tie-requires
+less-or-tie-requires c κs = search needs
+
 returns : tie.Need-returns
-returns c = let b = c .before .before .before in keeps-tie (of-max b) (of-min b) (c .before .before .if1 .taken) (c .before .difference .ensures) (c .difference2 .ensures)
+returns c =
+    let b = c .before .before .before .before in
+    c .less-or-tie .ensures ∙ keeps-tie (b .before .before .before .before .args .tie) (of-max b) (of-min b) (c .before .before .before .if1 .taken) (c .before .before .difference .ensures) (c .before .difference2 .ensures)
 
 add-result : tie.Need-add-result
 add-result c = omega (arith, counts-low (of-min (c .before)))
@@ -46,7 +52,7 @@ add-result-2 : tie.Need-add-result-2
 add-result-2 c = omega (arith, counts-low (of-max (c .before)))
 
 returns-2 : tie.Need-returns-2
-returns-2 c = keeps-more (of-max (c .before)) (of-min (c .before)) (c .if1 .left)
+returns-2 c = keeps-more (c .before .before .before .before .before .args .tie) (of-max (c .before)) (of-min (c .before)) (c .if1 .left)
 
 pub keeps-max-spec : {M : Type 1} → statement M
 keeps-max-spec =
@@ -60,6 +66,7 @@ keeps-max-spec =
     add-if1-2
     difference-requires
     difference-requires-2
+    less-or-tie-requires
     returns
     add-result
     add-result-2

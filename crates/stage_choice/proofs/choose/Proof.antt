@@ -3,9 +3,12 @@ use mathlib.Core.Path.{_≡_, sym, subst}
 use Prim.Native.Nat.{_*_, _≤_}
 use native.Mathlib.Omega.{arith}
 use lib.ListN.{length}
+use Rattle.rules.specs.declared.Gate.{Gate}
 use Rattle.rules.specs.declared.Gate.the-variants.{Min, Max}
 use Rattle.rules.specs.Cell.{cells}
 use Rattle.stage_drops.specs.Working.{Room}
+use Rattle.rules.specs.Settings.{settingsOf}
+use Rattle.stage_choice.specs.Choosing.{Decided}
 use Rattle.stage_choice.proofs.ChoiceLaws.{own-length, seek-min, seek-max, is-chosen}
 use borrow.Author.Needs.{needs}
 use Rattle.stage_choice.proofs.choose.Statement.{statement}
@@ -29,6 +32,9 @@ seek-requires c κs = let p = c .before .before .before .before .before .before 
 seek-requires-2 : tie.Need-seek-requires-2
 seek-requires-2 c κs = let p = c .before .before .before .before .before .before .before .before .before .before .pre in seek-max (p .0) (p .1) (p .2) (c .before .before .before .before .before .before .before .first-pair .ensures) (c .before .before .before .seek .ensures)
 
+tie-requires : tie.Need-tie-requires
+tie-requires c κs = search needs
+
 decide-requires : tie.Need-decide-requires
 decide-requires c κs = search needs
 
@@ -40,8 +46,12 @@ same-length c = search needs
 
 returns : tie.Need-returns
 returns c =
-    let p = c .before .before .before .before .before .before .before .before .before .before .before .before .before .before .before .before .before .before .pre .0 in
-    is-chosen (own-length p) (c .before .before .before .before .before .before .before .before .before .before .before .seek .ensures) (c .before .before .before .before .before .before .before .seek2 .ensures) (c .before .before .before .before .decide .result) (p .own) (c .before .before .before .before .decide .ensures) (c .before .before .settle .ensures) (search needs)
+    let s = c .before .before .before .before .before .before .before .before .before .before .before .before .before .before .before .before .before .before .before in
+    let p = s .pre .0 in
+    let by-min = c .before .before .before .before .before .before .before .before .before .before .before .before .seek in
+    let by-max = c .before .before .before .before .before .before .before .before .seek2 in
+    let d = subst (λ (g : Gate). Decided g (by-max .result) (by-min .result) (c .before .before .before .before .decide .result)) (c .before .before .before .before .before .tie .ensures) (c .before .before .before .before .decide .ensures) in
+    is-chosen (own-length p) (by-min .ensures) (by-max .ensures) (settingsOf (s .args .how)) (c .before .before .before .before .decide .result) (p .own) d (c .before .before .settle .ensures) (search needs)
 
 pub choose-spec : {M : Type 1} → statement M
-choose-spec = tie.close (tie.spec mul-first-pair first-pair-requires mul-first-pair-2 first-pair-requires-2 seek-requires seek-requires-2 decide-requires settle-requires same-length returns)
+choose-spec = tie.close (tie.spec mul-first-pair first-pair-requires mul-first-pair-2 first-pair-requires-2 seek-requires seek-requires-2 tie-requires decide-requires settle-requires same-length returns)

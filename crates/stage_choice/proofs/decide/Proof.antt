@@ -40,10 +40,10 @@ returns-3 : tie.Need-returns-3
 returns-3 c = decided (Some _) Nothing (Join Max _) (c .before .before .before .by-max .given .1) (c .enum-told3 .given .1) refl refl
 
 returns-4 : tie.Need-returns-4
-returns-4 c = decided-both (c .before .before .before .before .before .before .by-max .given .1) (c .before .before .before .by-min2 .given .1) (c .before .keeps-max .ensures) true (c .if1 .taken)
+returns-4 c = decided-both _ (c .before .before .before .before .before .before .by-max .given .1) (c .before .before .before .by-min2 .given .1) (c .before .keeps-max .ensures) true (c .if1 .taken)
 
 returns-5 : tie.Need-returns-5
-returns-5 c = decided-both (c .before .before .before .before .before .before .by-max .given .1) (c .before .before .before .by-min2 .given .1) (c .before .keeps-max .ensures) false (c .if1 .left)
+returns-5 c = decided-both _ (c .before .before .before .before .before .before .by-max .given .1) (c .before .before .before .by-min2 .given .1) (c .before .keeps-max .ensures) false (c .if1 .left)
 
 pub decide-spec : {M : Type 1} → statement M
 decide-spec =

@@ -3,6 +3,7 @@ use borrow.Author.Needs.{needs}
 use mathlib.Core.Path.{_≡_, sym, _∙_}
 use lib.ListN.{length}
 use native.Mathlib.Omega.{arith}
+use Rattle.rules.specs.Settings.{settingsOf}
 use Rattle.stage_plan.proofs.PlanLaws.{number-below, full-plan, seen-none, does-chosen, planned}
 use Rattle.stage_plan.proofs.plan_known.Statement.{statement}
 use Rattle.stage_plan.proofs.plan_known.Tie as tie
@@ -23,7 +24,7 @@ returns c =
     let b = c .before .before .before .before in
     let p = b .pre in
     let e : length (b .args .ks) ≡ 8 = search needs in
-    full-plan (p .0) (p .3) (p .2) e (p .4) (sym (c .before .both-full .ensures) ∙ c .if1 .taken)
+    full-plan (p .0) (p .3) (p .2) e (settingsOf (b .args .how)) (p .4) (sym (c .before .both-full .ensures) ∙ c .if1 .taken)
 
 mul-seen : tie.Need-mul-seen
 mul-seen c = search needs

@@ -3,6 +3,7 @@ use mathlib.Core.Path.{_≡_, sym, _∙_, subst}
 use lib.ListN.{length}
 use native.Mathlib.Omega.{arith}
 use borrow.Author.Needs.{needs}
+use Rattle.rules.specs.Settings.{settingsOf}
 use Rattle.stage_plan.proofs.PlanLaws.{ordered, room-same, wide-here, kept-plan, planned-same}
 use Rattle.stage_drops.specs.Working.{Proper}
 use Rattle.stage_plan.proofs.plan_stage.Statement.{statement}
@@ -30,7 +31,9 @@ same-length-2 : tie.Need-same-length-2
 same-length-2 c = search needs
 
 returns-2 : tie.Need-returns-2
-returns-2 c = c .before .before .end .ensures .planned (c .before .before .before .before .before .before .before .before .before .before .before .args .m)
+returns-2 c =
+    let b = c .before .before .before .before .before .before .before .before .before .before .before in
+    c .before .before .end .ensures .planned (settingsOf (b .args .how)) (b .args .m)
 
 learn-requires : tie.Need-learn-requires
 learn-requires c κs = let p = c .before .before .before .before .before .pre in (p .0, ordered (p .0) (p .1))

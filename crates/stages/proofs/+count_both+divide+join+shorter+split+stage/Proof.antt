@@ -9,9 +9,10 @@ use borrow.Author.Needs.{needs}
 use Rattle.rules.specs.Cell.{width}
 use Rattle.rules.specs.Stage.{treeOf}
 use Rattle.stage_drops.specs.Working.{frontStage}
+use Rattle.rules.specs.Settings.{settingsOf}
 use Rattle.stages.specs.Staging.{Written, Splits}
 use Rattle.stages.proofs.ChildLaws.{stageRank, divideRank, joinRank, divide-some}
-use Rattle.stages.proofs.SplitStageLaws.{Axis, Turn, InTurn, turn-none, number-below, values-some, axis, value-room, value-starts, value-falls, value-back, gates-room, value-keep, turn-more, split-whole, collect-room, split-done}
+use Rattle.stages.proofs.SplitStageLaws.{Axis, Turn, InTurn, found-cut, found-splits, found-divided, cut-room, turn-none, number-below, values-some, axis, apart-low, value-room, value-starts, value-falls, value-back, gates-room, value-keep, turn-more, split-whole, collect-room, split-done}
 use Rattle.stages.proofs.StageEndLaws.{written-here, plan-room, spread-room, still, divide-falls, join-falls, whole, leaf-room, leaf-done, divides, divide-done, joins, join-done}
 use Rattle.stages.proofs.BlockStageLaws.{first-room, first-starts, first-falls, first-back, second-room, second-starts, second-falls, second-back, close-room, joined-whole, joined-aside, joined-lows}
 use Rattle.stages.proofs.WeakStageLaws.{joins-alone, joined-alone, split-counts, open-room, weak-counts, both-counted, keep-room, kept-whole, here, weak-writes, weak-written, restore-room, split-writes, split-written, known-as, tries, tries-falls, tries-numbers, splits-here, tried-written}
@@ -47,7 +48,8 @@ use Rattle.stage_steps.proofs.values.collect.Reads as collect-reads
 use Rattle.stage_steps.proofs.values.end_value.Reads as end-value-reads
 use Rattle.stage_steps.proofs.values.keep_value.Reads as keep-value-reads
 use Rattle.stages.proofs.alone.Reads as alone-reads
-use Rattle.stages.proofs.may_still.Reads as may-still-reads
+use Rattle.stages.proofs.split_on.Reads as split-on-reads
+use Rattle.stages.proofs.tries.Reads as tries-reads
 use Rattle.weak_joins.proofs.first_weak.Reads as first-weak-reads
 use Rattle.weak_joins.proofs.keep.Reads as keep-reads
 use Rattle.weak_joins.proofs.open.Reads as open-reads
@@ -129,11 +131,11 @@ shorter-claims t = (count-both-below t, count-both.Post, keep-reads.Asked, keep-
 
 -- what `split` asks and learns of the functions that it calls
 abbrev split-claims : ℕ → split-lts.Claims
-split-claims t = (without-one-reads.Asked, without-one-reads.Learnt, begin-value-reads.Asked, begin-value-reads.Learnt, stage-below t, stage.Post, keep-value-reads.Asked, keep-value-reads.Learnt, end-value-reads.Asked, end-value-reads.Learnt)
+split-claims t = (split-on-reads.Asked, split-on-reads.Learnt, without-one-reads.Asked, without-one-reads.Learnt, begin-value-reads.Asked, begin-value-reads.Learnt, stage-below t, stage.Post, keep-value-reads.Asked, keep-value-reads.Learnt, end-value-reads.Asked, end-value-reads.Learnt)
 
 -- what `stage` asks and learns of the functions that it calls
 abbrev stage-claims : ℕ → stage-lts.Claims
-stage-claims t = (plan-stage-reads.Asked, plan-stage-reads.Learnt, leaf-reads.Asked, leaf-reads.Learnt, may-still-reads.Asked, may-still-reads.Learnt, divide-below t, divide.Post, join-below t, join.Post, spread-if-reads.Asked, spread-if-reads.Learnt)
+stage-claims t = (plan-stage-reads.Asked, plan-stage-reads.Learnt, leaf-reads.Asked, leaf-reads.Learnt, tries-reads.Asked, tries-reads.Learnt, divide-below t, divide.Post, join-below t, join.Post, spread-if-reads.Asked, spread-if-reads.Learnt)
 
 join-mul-rest : (t : ℕ) → join-lts.Need-mul-rest (join-claims t) (join-at t) join.Post
 join-mul-rest t c =
@@ -238,62 +240,76 @@ join-same-length-2 : (t : ℕ) → join-lts.Need-same-length-2 (join-claims t) (
 join-same-length-2 t c = join-returns t c .whole _ (c .before .before .before .before .before .before .before .before .before .before .before .before .before .before .before .before .before .before .before .before .before .before .before .before .before .before .before .before .before .before .before .before .before .pre .1 .1) .put .put .len
 
 abbrev split-Inv-loop : split-lts.InvT-loop
-split-Inv-loop w₀ network₀ m c r want i values b n rest total₀ k₀ w network total k =
-    (k ≤ values) × ((ks : List ℕ) → Splits m ks c w₀ r → Axis ks i b n values → Turn m ks c want w₀ network₀ r k total w network)
+split-Inv-loop w₀ network₀ m c r want how i values stp b n apart rest total₀ k₀ w network total k =
+    (k ≤ values) × ((ks : List ℕ) → Splits (settingsOf how) m i ks c w₀ r → Axis ks i b n stp values → Turn (settingsOf how) m i ks c want w₀ network₀ r k total w network)
 
 abbrev split-μ-loop : split-lts.MeasureT-loop
-split-μ-loop w₀ network₀ m c r want i values b n rest total₀ k₀ w network total k = values - k
+split-μ-loop w₀ network₀ m c r want how i values stp b n apart rest total₀ k₀ w network total k = values - k
+
+split-split-on-requires : (t : ℕ) → split-lts.Need-split-on-requires (split-claims t) (split-at t) split.Post split-Inv-loop split-μ-loop
+split-split-on-requires t c κs = let b = c .before .before in cut-room (b .pre .1 .0) (b .pre .1 .1)
 
 split-without-one-requires : (t : ℕ) → split-lts.Need-without-one-requires (split-claims t) (split-at t) split.Post split-Inv-loop split-μ-loop
 split-without-one-requires t c κs =
-    let s = c .before .before in
-    let e : length (s .args .ks) ≡ 8 = search needs in
-    number-below (s .pre .1 .0) (s .pre .1 .1) e
+    let b = c .before .before .before in
+    let eight : length (b .args .ks) ≡ 8 = search needs in
+    number-below (found-splits (c .split-on .ensures) (b .pre .1 .0)) eight
 
--- what it has read off its places
+-- it splits on the condition that was found, and what it has read off its places
+split-here : (t : ℕ) (c : split-lts.After-without-one (split-claims t) (split-at t) split.Post split-Inv-loop split-μ-loop)
+    → let a = c .before .before .before .before .args in Splits (settingsOf (a .how)) (a .m) (c .before .split-on .result .number) (a .ks) (a .c) (a .w .now) (a .r)
+split-here t c = found-splits (c .before .split-on .ensures) (c .before .before .before .before .pre .1 .0)
+
 split-axis : (t : ℕ) (c : split-lts.After-without-one (split-claims t) (split-at t) split.Post split-Inv-loop split-μ-loop)
-    → let a = c .before .before .before .args in Axis (a .ks) (a .low .number) (c .without-one .result) (a .c / a .low .values) (a .low .values)
-split-axis t c = axis (c .before .before .before .pre .1 .0) (c .before .before .before .pre .1 .1) (c .without-one .ensures)
+    → let a = c .before .before .before .before .args in
+    let o = c .before .split-on .result in
+    Axis (a .ks) (o .number) (c .without-one .result) (a .c / o .values) (o .step) (o .values)
+split-axis t c =
+    let eight : length (c .before .before .before .before .args .ks) ≡ 8 = search needs in
+    axis (split-here t c) (found-cut (c .before .split-on .ensures)) eight (c .without-one .ensures)
 
 split-div-n : (t : ℕ) → split-lts.Need-div-n (split-claims t) (split-at t) split.Post split-Inv-loop split-μ-loop
-split-div-n t c = values-some (c .before .before .before .pre .1 .0) (c .before .before .before .pre .1 .1)
+split-div-n t c = values-some (split-here t c) (found-cut (c .before .split-on .ensures))
+
+split-mul-apart : (t : ℕ) → split-lts.Need-mul-apart (split-claims t) (split-at t) split.Post split-Inv-loop split-μ-loop
+split-mul-apart t c =
+    let l = apart-low (split-here t c) (split-axis t c) in
+    let h = split-here t c .whole .left .work in
+    search needs
 
 split-mul-rest : (t : ℕ) → split-lts.Need-mul-rest (split-claims t) (split-at t) split.Post split-Inv-loop split-μ-loop
-split-mul-rest t c = let h = c .before .before .before .pre .1 .0 .whole .left .work in search needs
+split-mul-rest t c = let h = split-here t c .whole .left .work in search needs
 
 split-loop-holds : (t : ℕ) → split-lts.Need-loop-holds (split-claims t) (split-at t) split.Post split-Inv-loop split-μ-loop
-split-loop-holds t c = (omega arith, λ ks h a. turn-none _ ks _ _ _ _ _)
+split-loop-holds t c = (omega arith, λ ks h a. turn-none _ _ _ ks _ _ _ _ _)
 
 -- the value in turn
 split-value : (t : ℕ) (c : split-lts.In-loop (split-claims t) (split-at t) split.Post split-Inv-loop split-μ-loop)
     → let q = c .before .before in
-    let a = q .before .before .before .args in
+    let a = q .before .before .before .before .args in
+    let o = q .before .split-on .result in
     let l = c .before .loop in
-    InTurn (a .m) (a .ks) (a .c) (a .want) (a .w .now) (a .network .now) (a .r) (a .low .number) (q .without-one .result) (a .c / a .low .values) (a .low .values) (l .k) (l .total) (l .w) (l .network)
+    InTurn (settingsOf (a .how)) (a .m) (o .number) (a .ks) (a .c) (a .want) (a .w .now) (a .network .now) (a .r) (q .without-one .result) (a .c / o .values) (o .step) (o .values) (l .k) (l .total) (l .w) (l .network)
 split-value t c =
-    let h = c .before .before .before .before .before .pre .1 .0 in
+    let h = split-here t (c .before .before) in
     let a = split-axis t (c .before .before) in
     record { splits = h; axis = a; turn = c .before .loop .inv .1 _ h a; below = c .loop-test .taken }
 
 split-cast-begin-value : (t : ℕ) → split-lts.Need-cast-begin-value (split-claims t) (split-at t) split.Post split-Inv-loop split-μ-loop
-split-cast-begin-value t c =
-    let s = c .before .before .before .before .before .before .before in
-    let e : length (s .args .ks) ≡ 8 = search needs in
-    let l = number-below (s .pre .1 .0) (s .pre .1 .1) e in
-    search needs
+split-cast-begin-value t c = let l = split-value t (c .before .before) .axis .number in search needs
 
 split-sub-begin-value : (t : ℕ) → split-lts.Need-sub-begin-value (split-claims t) (split-at t) split.Post split-Inv-loop split-μ-loop
-split-sub-begin-value t c = c .before .before .before .before .before .before .before .pre .1 .0 .whole .left .proper .some
+split-sub-begin-value t c = split-value t (c .before .before) .splits .whole .left .proper .some
 
 split-begin-value-requires : (t : ℕ) → split-lts.Need-begin-value-requires (split-claims t) (split-at t) split.Post split-Inv-loop split-μ-loop
 split-begin-value-requires t c κs = let z = split-value t (c .before .before) in value-room (z .splits) (z .axis) (z .turn) (z .below)
 
 -- the parts end within the buffer, before a value's stage
-split-parts : (t : ℕ) (c : split-lts.After-slice-known4 (split-claims t) (split-at t) split.Post split-Inv-loop split-μ-loop) → 8 * c .before .before .before .before .before .before .before .before .before .before .before .before .args .c ≤ length (c .before .before .before .before .begin-value .last .0)
+split-parts : (t : ℕ) (c : split-lts.After-slice-known4 (split-claims t) (split-at t) split.Post split-Inv-loop split-μ-loop) → 8 * c .before .before .before .before .before .before .before .before .before .before .before .before .before .args .c ≤ length (c .before .before .before .before .begin-value .last .0)
 split-parts t c =
     let z = split-value t (c .before .before .before .before .before .before .before) in
     let w = z .splits .whole .left .work in
-    let g = c .before .before .before .before .begin-value .ensures .len in
+    let g = c .before .before .before .before .begin-value .ensures .tables .len in
     let l = z .turn .len in
     omega arith
 
@@ -310,7 +326,7 @@ split-stage-requires : (t : ℕ) → split-lts.Need-stage-requires (split-claims
 split-stage-requires t c κs =
     let z = split-value t (c .before .before .before .before .before .before .before .before .before) in
     let g = c .before .before .before .before .before .before .begin-value .ensures in
-    (let e = c .before .before .before .before .before .before .before .before .before .before .before .before .before .before .pre .0 in let f = value-falls (z .splits) (z .axis) (z .turn) (z .below) g in omega arith, value-starts (z .splits) (z .axis) (z .turn) (z .below) g)
+    (let e = c .before .before .before .before .before .before .before .before .before .before .before .before .before .before .before .pre .0 in let f = value-falls (z .splits) (z .axis) (z .turn) (z .below) g in omega arith, value-starts (z .splits) (z .axis) (z .turn) (z .below) g)
 
 split-keep-value-requires : (t : ℕ) → split-lts.Need-keep-value-requires (split-claims t) (split-at t) split.Post split-Inv-loop split-μ-loop
 split-keep-value-requires t c κs =
@@ -348,10 +364,11 @@ split-loop-again t c =
 
 split-returns : (t : ℕ) → split-lts.Need-returns (split-claims t) (split-at t) split.Post split-Inv-loop split-μ-loop
 split-returns t c =
-    let h = c .before .before .before .before .before .pre .1 .0 in
-    let a = split-axis t (c .before .before) in
+    let q = c .before .before in
+    let h = split-here t q in
+    let a = split-axis t q in
     let l = c .before .loop in
-    split-whole h a (l .inv .1 _ h a) (let m = l .inv .0 in omega arith)
+    found-divided (q .before .split-on .ensures) (split-whole h a (l .inv .1 _ h a) (let m = l .inv .0 in omega arith))
 
 split-same-length : (t : ℕ) → split-lts.Need-same-length (split-claims t) (split-at t) split.Post split-Inv-loop split-μ-loop
 split-same-length t c = split-returns t c .written .len
@@ -371,14 +388,14 @@ stage-leaf-requires t c κs = leaf-room (c .before .before .before .before .befo
 stage-enum-told-2 : (t : ℕ) → stage-lts.Need-enum-told-2 (stage-claims t) (stage-at t) stage.Post
 stage-enum-told-2 t c = search needs
 
-stage-may-still-requires : (t : ℕ) → stage-lts.Need-may-still-requires (stage-claims t) (stage-at t) stage.Post
-stage-may-still-requires t c κs = search needs
+stage-tries-requires : (t : ℕ) → stage-lts.Need-tries-requires (stage-claims t) (stage-at t) stage.Post
+stage-tries-requires t c κs = search needs
 
 stage-divide-requires : (t : ℕ) → stage-lts.Need-divide-requires (stage-claims t) (stage-at t) stage.Post
 stage-divide-requires t c κs =
     let b = c .before .before .before .before .before .before .before .before .before .before .before .before .before in
     let p = c .before .before .before .before .before .before .before .before .before .plan-stage .ensures in
-    let q = c .may-still .ensures ∙ still (b .pre .1) p in
+    let q = c .tries .ensures ∙ still (b .pre .1) p in
     (let e = b .pre .0 in let f = divide-falls (b .pre .1) p q in omega arith, (divides (b .pre .1) p (c .before .before .before .enum-told2 .given .1) q, p .lowest))
 
 stage-enum-known-choice : (t : ℕ) → stage-lts.Need-enum-known-choice (stage-claims t) (stage-at t) stage.Post
@@ -394,7 +411,7 @@ stage-join-requires t c κs =
 stage-came : (t : ℕ) (c : stage-lts.At-match-came (stage-claims t) (stage-at t) stage.Post)
     → let d = c .before .before .before .before .before in
     let a = d .before .before .before .before .args in
-    Written (d .plan-stage .result .places) (treeOf (a .m) (a .may) (frontStage (a .ks) (a .w .now))) 0 (a .want) (d .plan-stage .last .0) (a .network .now) (a .r) (c .match .of) (c .match .w) (c .match .network)
+    Written (d .plan-stage .result .places) (treeOf (settingsOf (a .how)) (a .m) (a .may) (frontStage (a .ks) (a .w .now))) 0 (a .want) (d .plan-stage .last .0) (a .network .now) (a .r) (c .match .of) (c .match .w) (c .match .network)
 stage-came t c =
     let d = c .before .before .before .before .before in
     let s = d .before .before .before .before .pre .1 in
@@ -545,7 +562,7 @@ divide-split-requires : (t : ℕ) → divide-lts.Need-split-requires (divide-cla
 divide-split-requires t c κs =
     let b = c .before .before .before .before .before .before .before .before in
     let e = known-as (c .before .before .enum-told .given .1) (c .before .before .before .before .first-weak .ensures) in
-    (let q = b .pre .0 in let f = divide-some (b .args .may) (b .args .ks) in omega arith, (splits-here (b .pre .1 .0) e, b .pre .1 .1))
+    (let q = b .pre .0 in let f = divide-some (b .args .sought) (b .args .ks) in omega arith, (splits-here (b .pre .1 .0) e, b .pre .1 .1))
 
 divide-collect-requires : (t : ℕ) → divide-lts.Need-collect-requires (divide-claims t) (divide-at t) divide.Post
 divide-collect-requires t c κs =
@@ -647,8 +664,10 @@ pub +count-both+divide+join+shorter+split+stage-spec : {M : Type 1} → statemen
     split.Post
     split-Inv-loop
     split-μ-loop
+    (split-split-on-requires t)
     (split-without-one-requires t)
     (split-div-n t)
+    (split-mul-apart t)
     (split-mul-rest t)
     (split-loop-holds t)
     (split-cast-begin-value t)
@@ -673,7 +692,7 @@ pub +count-both+divide+join+shorter+split+stage-spec : {M : Type 1} → statemen
     (stage-enum-told t)
     (stage-leaf-requires t)
     (stage-enum-told-2 t)
-    (stage-may-still-requires t)
+    (stage-tries-requires t)
     (stage-divide-requires t)
     (stage-enum-known-choice t)
     (stage-join-requires t)

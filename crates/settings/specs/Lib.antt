@@ -1,0 +1,2 @@
+-- What the contracts of `settings` cite.
+pub mod Byte
