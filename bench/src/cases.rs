@@ -3,7 +3,7 @@
 use crate::report::grouped;
 use calls::plain::Plain;
 use calls::tables::{OwnedTable, with_most_stages};
-use calls::{Calls, Edition, Gate, Limits, Sets, Table};
+use calls::{Calls, Edition, Gate, Limits, MIN_WINS_TIES, NO_WEAK_JOINS, SPLITS_ON_MOST, Sets, Table};
 
 /// Makes the call once and gives its answer.
 pub type Call = Box<dyn FnMut(&dyn Calls) -> u32>;
@@ -137,7 +137,7 @@ fn drawn_of(cards: &[u8], mut next: impl FnMut() -> usize) -> OwnedTable {
 
 fn network(table: &OwnedTable) -> Vec<u8> {
     let cells = table.cells();
-    let (mut work, mut network) = (vec![0; 32 * cells], vec![0; 16 * (3 * cells - 5)]);
+    let (mut work, mut network) = (vec![0; 32 * cells], vec![0; network_bytes(table)]);
     let records = Plain.compile(table.lent(), &mut work, &mut network);
     network.truncate(16 * records as usize);
     network
@@ -214,10 +214,25 @@ fn with_work(
     })
 }
 
+/// The bytes of network that compiling a table asks for.
+fn network_bytes(table: &OwnedTable) -> usize {
+    16 * (3 * table.cells() - 5)
+}
+
 pub fn compile(name: &str, line: Option<&'static str>, table: OwnedTable) -> Case {
-    let cells = table.cells();
-    let prepare = with_work(table, 16 * (3 * cells - 5), |calls, table, work, to| calls.compile(table, work, to));
+    let (cells, bytes) = (table.cells(), network_bytes(&table));
+    let prepare = with_work(table, bytes, |calls, table, work, to| calls.compile(table, work, to));
     Case { name: format!("compile {name}"), growth: line.map(|line| (line, cells)), prepare }
+}
+
+/// Compiles a table under each setting alone.
+fn compile_with(name: &str, table: &OwnedTable) -> [Case; 3] {
+    SETTINGS.map(|(setting, byte)| {
+        let prepare = with_work(table.clone(), network_bytes(table), move |calls, table, work, to| {
+            calls.compile_with(table, byte, work, to)
+        });
+        Case { name: format!("compile {name}, {setting}"), growth: None, prepare }
+    })
 }
 
 fn forecast(name: &str, table: OwnedTable) -> Case {
@@ -373,6 +388,13 @@ const FORECAST: [&str; 8] = [
     "8 2⁷ random, m 4",
 ];
 
+/// Those that are compiled under settings as well.
+const UNDER_SETTINGS: [&str; 3] = ["8 2⁷ random, m 4", "8 8 8 2 sum mod 16", "monks 2"];
+
+/// The settings, by what the names of their rows end with.
+const SETTINGS: [(&str, u8); 3] =
+    [("min wins ties", MIN_WINS_TIES), ("splits take most values", SPLITS_ON_MOST), ("no weak joins", NO_WEAK_JOINS)];
+
 pub fn all() -> Vec<Case> {
     let halves = Sets { s: 0b0011, t: 0b1100 };
     let mut cases = vec![
@@ -388,11 +410,14 @@ pub fn all() -> Vec<Case> {
     cases.extend(SETS.into_iter().flat_map(join_by));
     let compiled = compiled();
     cases.extend(compiled.iter().map(|(name, line, table)| compile(name, *line, table.clone())));
-    cases.extend(FORECAST.map(|name| {
-        let of_name = compiled.iter().find(|(other, ..)| other == name);
-        let (_, _, table) = of_name.expect("a table that is forecast is compiled");
-        forecast(name, table.clone())
-    }));
+    let of_name = |name: &str| {
+        let found = compiled.iter().find(|(other, ..)| other == name);
+        found.map(|(_, _, table)| table).expect("a table that is measured otherwise is compiled too")
+    };
+    cases.extend(FORECAST.map(|name| forecast(name, of_name(name).clone())));
+    if !cfg!(feature = "before_settings") {
+        cases.extend(UNDER_SETTINGS.into_iter().flat_map(|name| compile_with(name, of_name(name))));
+    }
     cases.extend([1024, 2048, 4096].map(evaluate));
     let wide = parity(&[8, 8, 8, 2]);
     for records in [64, 512] {

@@ -128,6 +128,8 @@ What a call costs in the proved library, and in plain safe Rust that answers the
   their stages have more of them than any other that was found: where no two sets join, a stage builds a weak join beside
   its split. The drawn tables were among the slowest, each of its shape, of some 540,000 that `bench/run search 60` drew
   and timed when there were splits alone.
+- A row of compiling that ends with a setting has the table under that one alone: min wins ties, splits take the condition
+  with most values, no weak joins. All others are without settings.
 - The rows to and from sets convert the longest file, m 16, which lists every cell, with limits that noise decides.
 - A row of a join that names sets has the sizes of S and of T. Of 1, S is condition 0, which has the eight values, and T is
   condition 7; a set of 7 is all the others. Sets of 3 are 0 1 2 and 5 6 7, adjoining, or 1 3 5 and 2 4 6, alternating. The

@@ -65,6 +65,10 @@ calls! {
     grades_compile as compile(shape: In, lower: In, upper: In, work: Out, network: Out);
     /// Writes the depth of a table's network in two bytes; answers how many records it will have.
     grades_forecast as forecast(shape: In, lower: In, upper: In, work: Out, depth: Out);
+    /// Writes the records of a table's network under settings; answers how many.
+    grades_compile_with as compile_with(shape: In, lower: In, upper: In, settings: u8, work: Out, network: Out);
+    /// Writes the depth of a table's network under settings in two bytes; answers how many records it will have.
+    grades_forecast_with as forecast_with(shape: In, lower: In, upper: In, settings: u8, work: Out, depth: Out);
     /// Answers 0 for within, else 1 + 16 × cell + grade of the first cell outside.
     grades_check as check(network: In, shape: In, lower: In, upper: In, work: Out);
     /// Answers the grade.
@@ -76,3 +80,9 @@ calls! {
 /// What is added to a refusal's number in the answer of a single evaluation, and of every other call.
 pub const REFUSED_EVALUATION: u32 = 256;
 pub const REFUSED: u32 = 65_536;
+
+/// The settings, each a bit of their byte: min wins a full tie, a split takes the condition with most values, no weak
+/// joins are tried.
+pub const MIN_WINS_TIES: u8 = 1;
+pub const SPLITS_ON_MOST: u8 = 2;
+pub const NO_WEAK_JOINS: u8 = 4;

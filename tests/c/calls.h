@@ -1,5 +1,5 @@
 /*
- * The twelve calls, each over a list of its buffers in the order of its
+ * The fourteen calls, each over a list of its buffers in the order of its
  * parameters, so that a test can go through calls and buffers alike.
  */
 #ifndef CALLS_H
@@ -16,7 +16,7 @@ struct lent {
 typedef uint32_t lent_call(const struct lent *lent);
 
 /* What the calls take besides buffers. */
-static uint8_t set_s = 1, set_t = 2;
+static uint8_t set_s = 1, set_t = 2, settings;
 static uint32_t cell_number;
 
 #define LENT(i) lent[i].at, lent[i].bytes
@@ -66,6 +66,16 @@ static uint32_t compile_lent(const struct lent *lent)
 static uint32_t forecast_lent(const struct lent *lent)
 {
     return grades_forecast(LENT(0), LENT(1), LENT(2), LENT(3), LENT(4));
+}
+
+static uint32_t compile_with_lent(const struct lent *lent)
+{
+    return grades_compile_with(LENT(0), LENT(1), LENT(2), settings, LENT(3), LENT(4));
+}
+
+static uint32_t forecast_with_lent(const struct lent *lent)
+{
+    return grades_forecast_with(LENT(0), LENT(1), LENT(2), settings, LENT(3), LENT(4));
 }
 
 static uint32_t check_lent(const struct lent *lent)

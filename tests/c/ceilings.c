@@ -179,20 +179,23 @@ static void expect_ceilings(const char *name, size_t records)
 }
 
 /* A table in which stages drop, join and split: one cell in so many has one grade, the others any
- * from one on. */
+ * from one on. Its networks under all settings. */
 static void compiled(unsigned one_in)
 {
+    uint8_t least[MOST_CELLS], most[MOST_CELLS], settings;
     uint32_t cell, records;
 
     for (cell = 0; cell < cells; cell++) {
-        lower[cell] = (uint8_t)below(shape[9]);
-        upper[cell] = below(one_in) == 0 ? lower[cell] : (uint8_t)(shape[9] - 1);
+        least[cell] = (uint8_t)below(shape[9]);
+        most[cell] = below(one_in) == 0 ? least[cell] : (uint8_t)(shape[9] - 1);
     }
-    records = grades_compile(shape, sizeof shape, lower, cells, upper, cells, work, sizeof work,
-                             network, sizeof network);
-    check(records >= 1 && records <= MOST_RECORDS, "compiled", "not a number of records");
-    if (records <= MOST_RECORDS)
-        expect_ceilings("compiled", records);
+    for (settings = 0; settings < SETTINGS; settings++) {
+        records = grades_compile_with(shape, sizeof shape, least, cells, most, cells, settings,
+                                      work, sizeof work, network, sizeof network);
+        check(records >= 1 && records <= MOST_RECORDS, "compiled", "not a number of records");
+        if (records <= MOST_RECORDS)
+            expect_ceilings("compiled", records);
+    }
 }
 
 /* Records that no compile made, each with the ceiling that it must have. */

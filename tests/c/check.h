@@ -43,6 +43,9 @@ static int all_filled(const uint8_t *from, const uint8_t *to)
     return 1;
 }
 
+/* How many bytes of settings differ: those of the three bits that are looked at. */
+#define SETTINGS 8
+
 /* Says how it went, and is main's result. */
 static int checked(const char *program)
 {

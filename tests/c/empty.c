@@ -128,7 +128,7 @@ static void joining_second(const char *name, lent_call *call, const uint8_t *tab
     expect_each(name, call, 0);
 }
 
-/* Compiling and a forecast, alike but for what they write. */
+/* Compiling and a forecast, alike but for what they write. E has 7 records under all settings. */
 static void compiling(const char *name, lent_call *call, const char *written, size_t bytes)
 {
     lend_table(odd);
@@ -185,6 +185,11 @@ int main(void)
     joining_second("join_min_second", join_min_second_lent, both);
     compiling("compile", compile_lent, "network", GRADES_COMPILE_NETWORK_BYTES(CELLS));
     compiling("forecast", forecast_lent, "depth", GRADES_DEPTH_BYTES);
+    for (settings = 0; settings < SETTINGS; settings++) {
+        compiling("compile_with", compile_with_lent, "network",
+                  GRADES_COMPILE_NETWORK_BYTES(CELLS));
+        compiling("forecast_with", forecast_with_lent, "depth", GRADES_DEPTH_BYTES);
+    }
     checking();
     evaluating();
     evaluating_each();

@@ -1,11 +1,13 @@
 /*
  * The whole library, on tables of four cells, one of eight and some of one:
  * reads, converts, forecasts, compiles, checks and evaluates table E of
- * document 01, joins where it can be done, and asks each call for its refusals.
- * Each call is held to its answer, and to every byte of the buffers that it may
+ * document 01, joins where it can be done, and asks each call for its refusals;
+ * forecasts and compiles without settings, and under each byte of them. Each
+ * call is held to its answer, and to every byte of the buffers that it may
  * write.
  */
 #include "check.h"
+#include "under.h"
 
 /* Limits that no table has, and the grades of the second condition alone. */
 static const uint8_t not_grades[CELLS] = {0, 0, 0, 2};
@@ -302,28 +304,81 @@ static void joining(const struct join *gate)
                   GRADES_REFUSED_FIRST_BLOCK);
 }
 
-/* Compiling, and what the network then is. */
+/* Compiling and a forecast, under these settings. A forecast is lent no network. */
 
-static uint32_t compile(size_t shape_bytes, const uint8_t *low, const uint8_t *high,
-                        size_t work_bytes, size_t network_bytes)
+static unsigned settings;
+
+typedef uint32_t grow(const uint8_t *of, size_t shape_bytes, const uint8_t *low, size_t low_bytes,
+                      const uint8_t *high, size_t high_bytes, size_t work_bytes,
+                      size_t written_bytes);
+
+static uint32_t compile(const uint8_t *of, size_t shape_bytes, const uint8_t *low, size_t low_bytes,
+                        const uint8_t *high, size_t high_bytes, size_t work_bytes,
+                        size_t network_bytes)
 {
     fill_buffers();
-    return grades_compile(square, shape_bytes, low, CELLS, high, CELLS, work, work_bytes, network,
-                          network_bytes);
+    return compile_under(settings, of, shape_bytes, low, low_bytes, high, high_bytes, work,
+                         work_bytes, network, network_bytes);
 }
 
+static uint32_t forecast(const uint8_t *of, size_t shape_bytes, const uint8_t *low,
+                         size_t low_bytes, const uint8_t *high, size_t high_bytes,
+                         size_t work_bytes, size_t depth_bytes)
+{
+    fill_buffers();
+    return forecast_under(settings, of, shape_bytes, low, low_bytes, high, high_bytes, work,
+                          work_bytes, depth, depth_bytes);
+}
+
+/* The refusals of either, which asks for so many bytes to write. */
+static void refusing(grow *call, size_t bytes)
+{
+    static const uint8_t one_value[GRADES_SHAPE_BYTES] = {2, 2, 1, 0, 0, 0, 0, 0, 0, 2};
+
+    check_refused("nine bytes of shape", call(square, 9, odd, CELLS, odd, CELLS, 128, bytes),
+                  GRADES_REFUSED_SHAPE);
+    check_refused("a condition of one value",
+                  call(one_value, 10, odd, CELLS, odd, CELLS, 128, bytes), GRADES_REFUSED_SHAPE);
+    check_refused("three lower limits", call(square, 10, odd, CELLS - 1, odd, CELLS, 128, bytes),
+                  GRADES_REFUSED_BUFFER);
+    check_refused("three upper limits", call(square, 10, odd, CELLS, odd, CELLS - 1, 128, bytes),
+                  GRADES_REFUSED_BUFFER);
+    check_refused("a work byte too few", call(square, 10, odd, CELLS, odd, CELLS, 127, bytes),
+                  GRADES_REFUSED_BUFFER);
+    check_refused("a byte too few to write",
+                  call(square, 10, odd, CELLS, odd, CELLS, 128, bytes - 1), GRADES_REFUSED_BUFFER);
+    check_refused("limits in disorder", call(square, 10, either, CELLS, odd, CELLS, 128, bytes),
+                  GRADES_REFUSED_LIMITS);
+    check_refused("a limit that is no grade",
+                  call(square, 10, both, CELLS, not_grades, CELLS, 128, bytes),
+                  GRADES_REFUSED_LIMITS);
+    /* Of two faults, the one that is tested for first. */
+    check_refused("nine bytes of shape, no other bytes", call(square, 9, either, 0, odd, 0, 0, 0),
+                  GRADES_REFUSED_SHAPE);
+    check_refused("nine bytes of shape, limits in disorder",
+                  call(square, 9, either, CELLS, odd, CELLS, 128, bytes), GRADES_REFUSED_SHAPE);
+    check_refused("limits in disorder, three of them lower",
+                  call(square, 10, either, CELLS - 1, odd, CELLS, 128, bytes),
+                  GRADES_REFUSED_BUFFER);
+    check_refused("limits in disorder, three of them upper",
+                  call(square, 10, either, CELLS, odd, CELLS - 1, 128, bytes),
+                  GRADES_REFUSED_BUFFER);
+    check_refused("limits in disorder, a work byte too few",
+                  call(square, 10, either, CELLS, odd, CELLS, 127, bytes), GRADES_REFUSED_BUFFER);
+    check_refused("limits in disorder, a byte too few to write",
+                  call(square, 10, either, CELLS, odd, CELLS, 128, bytes - 1),
+                  GRADES_REFUSED_BUFFER);
+}
+
+/* Compiling, and what the network then is: E's is the same under all settings. */
 static void compiling(void)
 {
     static const uint16_t numbers[CELLS] = {0, 1, 2, 3};
     const char *name = "compiling";
     uint32_t cell;
 
-    check_refused("nine bytes of shape", compile(9, odd, odd, 128, 112), GRADES_REFUSED_SHAPE);
-    check_refused("a work byte too few", compile(10, odd, odd, 127, 112), GRADES_REFUSED_BUFFER);
-    check_refused("a network byte too few", compile(10, odd, odd, 128, 111), GRADES_REFUSED_BUFFER);
-    check_refused("limits in disorder", compile(10, either, odd, 128, 112), GRADES_REFUSED_LIMITS);
-
-    check_answer(name, compile(10, odd, odd, 128, 112), 7);
+    refusing(compile, parity_bytes);
+    check_answer(name, compile(square, 10, odd, CELLS, odd, CELLS, 128, parity_bytes), 7);
     check_front(name, network, sizeof network, parity, parity_bytes);
     check(all_filled(work + 128, work + sizeof work), name, "work bytes changed that must stay");
     for (cell = 0; cell < CELLS; cell++)
@@ -342,18 +397,14 @@ static void compiling(void)
  * behind the split's, though the weak join's would have reached there. */
 static void compiling_weakly(void)
 {
-    static const uint8_t joined[5][GRADES_RECORD_BYTES] = {
+    static const uint8_t joined[5][RECORD] = {
         {1, 0, 2, 0, 0, 0, 0, 0, 0, 2}, {1, 1, 2, 0, 0, 0, 0, 0, 1, 2}, {2, 0, 2, 0, 0, 0, 1, 0},
         {1, 1, 1, 0, 0, 0, 0, 0, 0, 1}, {3, 0, 2, 0, 2, 0, 3, 0},
     };
-    uint8_t split[7][GRADES_RECORD_BYTES];
+    uint8_t split[7][RECORD];
     const char *name = "a weak join that is kept";
 
-    fill_buffers();
-    check_answer(name,
-                 grades_compile(three_grades, 10, sum, CELLS, sum, CELLS, work, 128, network,
-                                sizeof network),
-                 5);
+    check_answer(name, compile(three_grades, 10, sum, CELLS, sum, CELLS, 128, sizeof network), 5);
     check_front(name, network, sizeof network, joined, sizeof joined);
 
     /* As E's network, but for the literals that select a value: they have 2 for 1. The min gates
@@ -362,23 +413,8 @@ static void compiling_weakly(void)
     memcpy(split, parity, sizeof split);
     split[0][8] = split[3][9] = 2;
     split[0][CEILING] = split[3][CEILING] = 2;
-    fill_buffers();
-    check_answer(name,
-                 grades_compile(three_grades, 10, odd, CELLS, odd, CELLS, work, 128, network,
-                                sizeof network),
-                 7);
+    check_answer(name, compile(three_grades, 10, odd, CELLS, odd, CELLS, 128, sizeof network), 7);
     check_front(name, network, sizeof network, split, sizeof split);
-}
-
-/* A forecast. No network is lent. */
-
-static uint32_t forecast(const uint8_t *of, size_t shape_bytes, const uint8_t *low,
-                         const uint8_t *high, size_t limit_bytes, size_t work_bytes,
-                         size_t depth_bytes)
-{
-    fill_buffers();
-    return grades_forecast(of, shape_bytes, low, limit_bytes, high, limit_bytes, work, work_bytes,
-                           depth, depth_bytes);
 }
 
 /* A table with one grade for each cell; in a depth buffer as long as asked, and in a longer one. */
@@ -391,7 +427,8 @@ static void expect_forecast(const char *name, const uint8_t *of, const uint8_t *
 
     for (depth_bytes = sizeof wanted; depth_bytes <= sizeof depth;
          depth_bytes += sizeof depth - sizeof wanted) {
-        check_answer(name, forecast(of, 10, table, table, cells, work_bytes, depth_bytes), records);
+        check_answer(name, forecast(of, 10, table, cells, table, cells, work_bytes, depth_bytes),
+                     records);
         check_front(name, depth, sizeof depth, wanted, sizeof wanted);
         check(all_filled(work + work_bytes, work + sizeof work), name,
               "work bytes changed that must stay");
@@ -404,33 +441,31 @@ static void forecasting(void)
     static const uint8_t cube[GRADES_SHAPE_BYTES] = {3, 2, 2, 2, 0, 0, 0, 0, 0, 2};
     static const uint8_t odd_of_three[8] = {0, 1, 1, 0, 1, 0, 0, 1};
     static const uint8_t always[CELLS] = {1, 1, 1, 1};
+    const int weak_joins = (settings & GRADES_NO_WEAK_JOINS) == 0;
 
+    refusing(forecast, GRADES_DEPTH_BYTES);
     expect_forecast("E", square, odd, CELLS, 7, 2);
     expect_forecast("parity of three", cube, odd_of_three, 8, 19, 4);
     expect_forecast("a max of two literals", square, either, CELLS, 3, 1);
     expect_forecast("a min of two literals", square, both, CELLS, 3, 1);
     expect_forecast("a literal", square, of_first, CELLS, 1, 0);
     expect_forecast("a constant", square, always, CELLS, 1, 0);
-    expect_forecast("a weak join that is kept", three_grades, sum, CELLS, 5, 2);
+    expect_forecast("a weak join that is kept", three_grades, sum, CELLS, weak_joins ? 5 : 7, 2);
     expect_forecast("a weak join that is not kept", three_grades, odd, CELLS, 7, 2);
+}
 
-    check_refused("nine bytes of shape", forecast(square, 9, odd, odd, CELLS, 128, 2),
-                  GRADES_REFUSED_SHAPE);
-    check_refused("three limits", forecast(square, 10, odd, odd, CELLS - 1, 128, 2),
-                  GRADES_REFUSED_BUFFER);
-    check_refused("a work byte too few", forecast(square, 10, odd, odd, CELLS, 127, 2),
-                  GRADES_REFUSED_BUFFER);
-    check_refused("one byte for the depth", forecast(square, 10, odd, odd, CELLS, 128, 1),
-                  GRADES_REFUSED_BUFFER);
-    check_refused("limits in disorder", forecast(square, 10, either, odd, CELLS, 128, 2),
-                  GRADES_REFUSED_LIMITS);
-    /* Of two faults, the one that is tested for first. */
-    check_refused("nine bytes of shape, no other bytes", forecast(square, 9, either, odd, 0, 0, 0),
-                  GRADES_REFUSED_SHAPE);
-    check_refused("limits in disorder, a work byte too few",
-                  forecast(square, 10, either, odd, CELLS, 127, 2), GRADES_REFUSED_BUFFER);
-    check_refused("limits in disorder, one byte for the depth",
-                  forecast(square, 10, either, odd, CELLS, 128, 1), GRADES_REFUSED_BUFFER);
+/* Both under each byte of settings, and last without. */
+static void growing(void)
+{
+    for (settings = 0; settings <= NO_SETTINGS; settings++) {
+        const unsigned before = failures;
+        compiling();
+        if ((settings & GRADES_NO_WEAK_JOINS) == 0)
+            compiling_weakly();
+        forecasting();
+        if (failures != before)
+            printf("c: panel: this was under settings %u; %u are none\n", settings, NO_SETTINGS);
+    }
 }
 
 /* Checking E's network. */
@@ -502,9 +537,7 @@ int main(void)
     converting_one_cell();
     joining(&joins[0]);
     joining(&joins[1]);
-    compiling();
-    compiling_weakly();
-    forecasting();
+    growing();
     checking();
     return checked("panel");
 }

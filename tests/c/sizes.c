@@ -3,7 +3,9 @@
  * one more is refused; the bytes that a call asks for are enough, and one byte
  * less is refused.
  */
-#include "tables.h"
+#include "depths.h"
+#include "files.h"
+#include "under.h"
 
 /* A record more than a compiled network can have. */
 static uint8_t network[GRADES_COMPILE_NETWORK_BYTES(MOST_CELLS) + RECORD];
@@ -15,11 +17,6 @@ static uint8_t depth[GRADES_DEPTH_BYTES];
 /* All cells, and the first number that has none. */
 static uint16_t numbers[MOST_CELLS + 1];
 static uint8_t grades[MOST_CELLS + 1];
-
-static unsigned two_bytes(const uint8_t *low)
-{
-    return low[0] + 256u * low[1];
-}
 
 /* A shape, by a network of one constant at a cell. */
 static void expect_shape(const char *name, uint32_t cell, uint32_t wanted)
@@ -124,39 +121,22 @@ static void conversions(void)
     check(memcmp(back, file, bytes) == 0, name, "another file than it was made from");
 }
 
-/* Compiling, a forecast, checking and a list with exactly the bytes that they ask for. */
+/* Compiling and a forecast under settings, checking and a list, with exactly the bytes that they
+ * ask for. */
+
+static unsigned settings;
 
 static uint32_t compile(size_t work_bytes, size_t network_bytes)
 {
     memset(network, FILL, sizeof network);
-    return grades_compile(shape, sizeof shape, lower, cells, upper, cells, work, work_bytes,
-                          network, network_bytes);
+    return compile_under(settings, shape, sizeof shape, lower, cells, upper, cells, work,
+                         work_bytes, network, network_bytes);
 }
 
 static uint32_t forecast(size_t work_bytes, size_t depth_bytes)
 {
-    return grades_forecast(shape, sizeof shape, lower, cells, upper, cells, work, work_bytes, depth,
-                           depth_bytes);
-}
-
-/* The depth of the last of some records, from those of the records before it. */
-static unsigned depth_of_last(uint32_t records)
-{
-    /* One for each number that a gate can name. */
-    static unsigned depths[65536];
-    unsigned last = 0;
-    uint32_t at;
-
-    for (at = 0; at < records; at++) {
-        const uint8_t *record = network + (size_t)at * RECORD;
-        last = 0;
-        if (record[0] >= 2) {
-            unsigned left = depths[two_bytes(record + 4)], right = depths[two_bytes(record + 6)];
-            last = 1 + (left < right ? right : left);
-        }
-        depths[at] = last;
-    }
-    return last;
+    return forecast_under(settings, shape, sizeof shape, lower, cells, upper, cells, work,
+                          work_bytes, depth, depth_bytes);
 }
 
 static uint32_t check_network(size_t network_bytes, size_t work_bytes)
@@ -199,9 +179,9 @@ static uint32_t expect_compiled(void)
     const size_t network_bytes = GRADES_COMPILE_NETWORK_BYTES(cells);
     size_t bytes;
     uint32_t records;
-    char name[32];
+    char name[64];
 
-    sprintf(name, "compile %u cells", (unsigned)cells);
+    sprintf(name, "compile %u cells, settings %u", (unsigned)cells, settings);
     make_parity();
     check_answer(name, compile(work_bytes - 1, network_bytes), GRADES_REFUSED_BUFFER);
     check_answer(name, compile(work_bytes, network_bytes - 1), GRADES_REFUSED_BUFFER);
@@ -215,11 +195,11 @@ static uint32_t expect_compiled(void)
     check_answer(name, check_network(bytes, GRADES_RUN_WORK_BYTES(bytes) - 1),
                  GRADES_REFUSED_BUFFER);
     expect_listed(bytes);
-    sprintf(name, "forecast %u cells", (unsigned)cells);
+    sprintf(name, "forecast %u cells, settings %u", (unsigned)cells, settings);
     check_answer(name, forecast(work_bytes - 1, GRADES_DEPTH_BYTES), GRADES_REFUSED_BUFFER);
     check_answer(name, forecast(work_bytes, GRADES_DEPTH_BYTES - 1), GRADES_REFUSED_BUFFER);
     check_answer(name, forecast(work_bytes, GRADES_DEPTH_BYTES), records);
-    check_answer(name, two_bytes(depth), depth_of_last(records));
+    check_answer(name, two_bytes(depth), depth_of_last(network, records));
     return records;
 }
 
@@ -287,6 +267,9 @@ int main(void)
     shapes();
     files();
     conversions();
+    for (settings = 0; settings < SETTINGS; settings++)
+        compiling();
+    settings = NO_SETTINGS;
     compiling();
     outside();
     return checked("sizes");

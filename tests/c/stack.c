@@ -5,7 +5,7 @@
  */
 #define _DEFAULT_SOURCE
 #include "calls.h"
-#include "tables.h"
+#include "files.h"
 
 #include <ucontext.h>
 
@@ -25,6 +25,8 @@ static struct {
     {"join_min_second", join_min_second_lent, GRADES_JOIN_STACK_BYTES, 0},
     {"compile", compile_lent, GRADES_COMPILE_STACK_BYTES, 0},
     {"forecast", forecast_lent, GRADES_COMPILE_STACK_BYTES, 0},
+    {"compile_with", compile_with_lent, GRADES_COMPILE_STACK_BYTES, 0},
+    {"forecast_with", forecast_with_lent, GRADES_COMPILE_STACK_BYTES, 0},
     {"check", check_lent, GRADES_RUN_STACK_BYTES, 0},
     {"evaluate", evaluate_lent, GRADES_RUN_STACK_BYTES, 0},
     {"evaluate_each", evaluate_each_lent, GRADES_EACH_STACK_BYTES, 0},
@@ -37,6 +39,8 @@ enum {
     JOIN_MIN = JOIN_MAX + 2,
     COMPILE = JOIN_MIN + 2,
     FORECAST,
+    COMPILE_WITH,
+    FORECAST_WITH,
     CHECK,
     EVALUATE,
     EVALUATE_EACH,
@@ -92,6 +96,15 @@ static uint32_t take_1000(const struct lent *lent)
     return bytes[0];
 }
 
+/* The most that compiling and a forecast have taken under each of the settings. */
+static size_t most_under[SETTINGS];
+
+static void raise_to(size_t *most, size_t bytes)
+{
+    if (*most < bytes)
+        *most = bytes;
+}
+
 /* Measures a call, and gives its answer. It runs once before, since the loader
  * takes stack of its own when it binds memset and memcpy. */
 static uint32_t measure(size_t i, const struct lent *lent)
@@ -101,8 +114,9 @@ static uint32_t measure(size_t i, const struct lent *lent)
     calls[i].call(lent);
     bytes = taken(calls[i].call, lent);
     check(bytes < calls[i].bound, calls[i].name, "more stack than the header says");
-    if (calls[i].most < bytes)
-        calls[i].most = bytes;
+    raise_to(&calls[i].most, bytes);
+    if (i == COMPILE_WITH || i == FORECAST_WITH)
+        raise_to(&most_under[settings], bytes);
     return answer;
 }
 
@@ -214,16 +228,22 @@ static void running(size_t network_bytes)
     listing(network_bytes);
 }
 
-/* The table that was made, and then its network. Gives the number of records. */
+/* The table that was made, under all settings and without, and then its network. Gives the number
+ * of records. */
 static uint32_t compiling(void)
 {
-    struct lent lent[] = {
+    struct lent to_compile[] = {
         {WHOLE(shape)}, {WHOLE(lower)}, {WHOLE(upper)}, {WHOLE(work)}, {WHOLE(network)}};
-    static const struct lent in_place_of_network = {WHOLE(depth)};
-    uint32_t records = measure(COMPILE, lent);
+    struct lent to_forecast[] = {
+        {WHOLE(shape)}, {WHOLE(lower)}, {WHOLE(upper)}, {WHOLE(work)}, {WHOLE(depth)}};
+    uint32_t records;
 
-    lent[4] = in_place_of_network;
-    check_answer("forecast", measure(FORECAST, lent), records);
+    for (settings = 0; settings < SETTINGS; settings++) {
+        records = measure(COMPILE_WITH, to_compile);
+        check_answer("forecast_with", measure(FORECAST_WITH, to_forecast), records);
+    }
+    records = measure(COMPILE, to_compile);
+    check_answer("forecast", measure(FORECAST, to_forecast), records);
     running((size_t)records * RECORD);
     return records;
 }
@@ -320,5 +340,8 @@ int main(void)
     for (i = 0; i < CALLS; i++)
         printf(" %s %u%s", calls[i].name, (unsigned)calls[i].most,
                i + 1 < CALLS ? "," : " bytes\n");
+    printf("c: stack: compile_with, forecast_with under settings 0 to 7:");
+    for (i = 0; i < SETTINGS; i++)
+        printf(" %u%s", (unsigned)most_under[i], i + 1 < SETTINGS ? "," : " bytes\n");
     return checked("stack");
 }

@@ -1,5 +1,5 @@
 /*
- * Tables of any shape, made by a program: a shape, limits, and their file.
+ * Tables of any shape, made by a program: a shape and limits.
  */
 #ifndef TABLES_H
 #define TABLES_H
@@ -9,9 +9,6 @@
 #define MOST_CELLS GRADES_MAX_CELLS
 
 static uint8_t shape[GRADES_SHAPE_BYTES], lower[MOST_CELLS], upper[MOST_CELLS];
-
-/* A record more than a file can have. */
-static uint8_t file[GRADES_MAX_FILE_BYTES + RECORD];
 
 /* How many cells there are, and by how many a value more of each condition goes on. */
 static uint32_t cells, steps[GRADES_MAX_CONDITIONS];
@@ -53,32 +50,6 @@ static void make_parity(void)
             sum += value_at(cell, i);
         lower[cell] = upper[cell] = sum & 1;
     }
-}
-
-/* Lists all cells, and answers the number of bytes. */
-static size_t make_file(void)
-{
-    uint8_t *record = file;
-    uint32_t cell;
-    uint8_t i;
-
-    memset(file, 0, sizeof file);
-    for (i = 0; i < shape[0]; i++, record += RECORD) {
-        record[0] = 1;
-        record[1] = i;
-        record[2] = shape[1 + i];
-    }
-    record[0] = 2;
-    record[1] = shape[9];
-    for (cell = 0; cell < cells; cell++) {
-        record += RECORD;
-        record[0] = 3;
-        record[1] = lower[cell];
-        record[2] = upper[cell];
-        for (i = 0; i < shape[0]; i++)
-            record[8 + i] = value_at(cell, i);
-    }
-    return (size_t)(record + RECORD - file);
 }
 
 #endif

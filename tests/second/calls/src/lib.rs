@@ -59,6 +59,12 @@ pub const REFUSED: u32 = 65_536;
 /// What stands for a grade where the number in a list is that of no cell.
 pub const NO_CELL: u8 = 255;
 
+/// The settings, each a bit of their byte: min wins a full tie, a split takes the condition with most values, no weak
+/// joins are tried.
+pub const MIN_WINS_TIES: u8 = 1;
+pub const SPLITS_ON_MOST: u8 = 2;
+pub const NO_WEAK_JOINS: u8 = 4;
+
 pub trait Calls {
     /// Writes the shape's ten bytes and the limits; answers 0.
     fn read(&self, file: &[u8], shape: &mut [u8], limits: Limits) -> u32;
@@ -72,6 +78,9 @@ pub trait Calls {
     fn compile(&self, table: Table, work: &mut [u8], network: &mut [u8]) -> u32;
     /// Writes the depth of the last record that compiling writes, in two bytes; answers how many it writes.
     fn forecast(&self, table: Table, work: &mut [u8], depth: &mut [u8]) -> u32;
+    /// The same two under settings, of which each is a bit.
+    fn compile_with(&self, table: Table, settings: u8, work: &mut [u8], network: &mut [u8]) -> u32;
+    fn forecast_with(&self, table: Table, settings: u8, work: &mut [u8], depth: &mut [u8]) -> u32;
     /// Answers 0 for within, else 1 + 16 × cell + grade of the first cell outside.
     fn check(&self, network: &[u8], table: Table, work: &mut [u8]) -> u32;
     /// Answers the grade.

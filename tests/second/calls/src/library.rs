@@ -1,6 +1,15 @@
 //! The proved library through its C interface.
 
 use crate::{Calls, Edition, Gate, Limits, Sets, Table};
+#[cfg(not(feature = "before_settings"))]
+use grades::{compile_with, forecast_with};
+#[cfg(feature = "before_settings")]
+use {no_such_call as compile_with, no_such_call as forecast_with};
+
+#[cfg(feature = "before_settings")]
+fn no_such_call(_: &[u8], _: &[u8], _: &[u8], _: u8, _: &mut [u8], _: &mut [u8]) -> u32 {
+    panic!("this archive is from before there were settings")
+}
 
 pub struct Library;
 
@@ -38,6 +47,14 @@ impl Calls for Library {
 
     fn forecast(&self, table: Table, work: &mut [u8], depth: &mut [u8]) -> u32 {
         grades::forecast(table.shape, table.lower, table.upper, work, depth)
+    }
+
+    fn compile_with(&self, table: Table, settings: u8, work: &mut [u8], network: &mut [u8]) -> u32 {
+        compile_with(table.shape, table.lower, table.upper, settings, work, network)
+    }
+
+    fn forecast_with(&self, table: Table, settings: u8, work: &mut [u8], depth: &mut [u8]) -> u32 {
+        forecast_with(table.shape, table.lower, table.upper, settings, work, depth)
     }
 
     fn check(&self, network: &[u8], table: Table, work: &mut [u8]) -> u32 {

@@ -42,11 +42,19 @@ impl Calls for Plain {
     }
 
     fn compile(&self, table: Table, work: &mut [u8], network: &mut [u8]) -> u32 {
-        answer(REFUSED, compile::compile(table, work, network))
+        self.compile_with(table, 0, work, network)
     }
 
     fn forecast(&self, table: Table, work: &mut [u8], depth: &mut [u8]) -> u32 {
-        answer(REFUSED, compile::forecast(table, work, depth))
+        self.forecast_with(table, 0, work, depth)
+    }
+
+    fn compile_with(&self, table: Table, settings: u8, work: &mut [u8], network: &mut [u8]) -> u32 {
+        answer(REFUSED, compile::compile(table, settings, work, network))
+    }
+
+    fn forecast_with(&self, table: Table, settings: u8, work: &mut [u8], depth: &mut [u8]) -> u32 {
+        answer(REFUSED, compile::forecast(table, settings, work, depth))
     }
 
     fn check(&self, bytes: &[u8], table: Table, work: &mut [u8]) -> u32 {

@@ -99,7 +99,7 @@ fn programs(seed: u64) -> bool {
 }
 
 /// A session on the tables that a seed decides; whether all was equal, and each refusal was seen, and weak joins that are
-/// kept and that are not.
+/// kept and that are not, and for each setting a network that it changes.
 fn compare(calls: &dyn Calls, seed: u64, with_same: bool) -> bool {
     let mut session = Session::new(calls, seed);
     let same = if with_same { rounds::same(&mut session) } else { Ok(()) };
@@ -112,8 +112,16 @@ fn compare(calls: &dyn Calls, seed: u64, with_same: bool) -> bool {
     };
     let [kept, rejected] = session.with_weak_joins;
     let weak = format!("tables with weak joins: {kept} keep one, {rejected} reject one");
-    conclude(&outcome, &format!("compare: {} cases, seed {seed}, {weak}, refusals {refusals}", session.cases));
-    outcome.is_ok() && unseen.is_empty() && kept > 0 && rejected > 0
+    let [ties, splits, no_weak] = session.with_other_networks;
+    let settings = format!(
+        "with another network: {ties} if min wins ties, {splits} if splits take most values, {no_weak} with no weak joins"
+    );
+    conclude(
+        &outcome,
+        &format!("compare: {} cases, seed {seed}, {weak}, {settings}, refusals {refusals}", session.cases),
+    );
+    let exercised = [kept, rejected, ties, splits, no_weak].iter().all(|&tables| tables > 0);
+    outcome.is_ok() && unseen.is_empty() && exercised
 }
 
 fn main() -> ExitCode {

@@ -12,7 +12,8 @@ use crate::tables::{cardinality_lists, damage, some_table};
 use calls::Edition;
 use calls::tables::OwnedTable;
 use oracle::listing::listing;
-use oracle::{Answer, file, network, stages};
+use oracle::stages::{Lent, Settings};
+use oracle::{Answer, file, network};
 use std::collections::BTreeSet;
 use std::fs::{self, File};
 use std::io::{self, Read, Seek, SeekFrom, Write};
@@ -153,8 +154,8 @@ fn hexadecimal(bytes: &[u8]) -> String {
 /// The bytes of the network that the oracle compiles for a table file.
 fn network_of(bytes: &[u8]) -> Answer<Vec<u8>> {
     let read = file::read(bytes, usize::MAX, usize::MAX, usize::MAX)?;
-    let lent = stages::Lent::new(&read.shape, &read.lower, &read.upper, usize::MAX);
-    lent.compile(usize::MAX).map(network::bytes)
+    let mut lent = Lent::new(&read.shape, &read.lower, &read.upper, usize::MAX);
+    lent.compile(Settings::USUAL, usize::MAX).map(network::bytes)
 }
 
 /// The blocks of docs/FORMAT.md, all of them records: the example's table, its cell 3 in the other edition, its network.

@@ -4,7 +4,7 @@ use crate::editions;
 use crate::networks::{some_network, with_ceilings, with_one_ceiling, with_other_ceilings, with_other_contents};
 use crate::random::Random;
 use crate::session::{Block, Join, Outcome, Session, compile_rooms};
-use crate::tables::{all_tables, cardinality_lists, damage, joined_table, some_table, ungrouped_table};
+use crate::tables::{all_tables, cardinality_lists, damage, joined_table, some_table, sparse_table, ungrouped_table};
 use calls::tables::{OwnedTable, with_most_stages};
 use calls::{Edition, Gate, Sets};
 
@@ -37,7 +37,8 @@ pub fn round(session: &mut Session) -> Outcome<()> {
     lent_sets(session)?;
     foreign_networks(session)?;
     every_pair_of_sets(session)?;
-    weak_joins(session)
+    weak_joins(session)?;
+    ties(session)
 }
 
 /// Every list of cardinalities, rising and falling, each with a table.
@@ -526,11 +527,29 @@ fn weak_joins(session: &mut Session) -> Outcome<()> {
             for cards in shapes {
                 for _ in 0..times {
                     let table = ungrouped_table(cards, grades, &mut session.random);
-                    let network = session.compile(&table, compile_rooms(table.cells()))?.unwrap_or_default();
-                    session.check(&network, &table, network.len() / 16)?;
+                    network_alone(session, &table)?;
                 }
             }
         }
     }
     Ok(())
+}
+
+/// Tables in which many stages have a grouping by either gate. It takes four conditions for two that have as many in their
+/// sets, but not as evenly.
+fn ties(session: &mut Session) -> Outcome<()> {
+    for (cards, times) in [(&[2, 2, 2, 2][..], 400), (&[2, 3, 2, 3], 200), (&[2; 5], 400), (&[2, 3, 2, 2, 3], 100)] {
+        for _ in 0..times {
+            let grades = session.random.pick(&[2, 3, 4, 8, 16]);
+            let table = sparse_table(cards, grades, &mut session.random);
+            network_alone(session, &table)?;
+        }
+    }
+    Ok(())
+}
+
+/// A table's network, foretold, compiled and checked.
+fn network_alone(session: &mut Session, table: &OwnedTable) -> Outcome<()> {
+    let network = session.compile(table, compile_rooms(table.cells()))?.unwrap_or_default();
+    session.check(&network, table, network.len() / 16)
 }

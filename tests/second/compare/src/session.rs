@@ -5,8 +5,8 @@ use crate::networks::CEILING;
 use crate::random::Random;
 use calls::tables::OwnedTable;
 use calls::{Calls, Edition, Gate, Limits, NO_CELL, REFUSED, REFUSED_EVALUATION, Sets, Table};
-use oracle::stages::WeakJoins;
-use oracle::{Answer, file, join, network, refusal, stages};
+use oracle::stages::{self, Settings, WeakJoins};
+use oracle::{Answer, file, join, network, refusal};
 
 /// The error is a report of the first difference.
 pub type Outcome<T> = Result<T, String>;
@@ -29,10 +29,13 @@ pub struct Session<'a> {
     pub random: Random,
     pub cases: u64,
     seen: [bool; REFUSALS + 1],
-    /// The weak joins of the table that was compiled last.
+    /// The weak joins of the table that was compiled last, and the figures of its network under each choice of settings.
     pub weak_joins: WeakJoins,
+    pub grown: [Option<Figures>; CHOICES],
     /// In how many of the tables compiled one is kept, and in how many one is built and gives way to the split.
     pub with_weak_joins: [u64; 2],
+    /// How many of the tables compiled have another network under each setting alone.
+    pub with_other_networks: [u64; SETTINGS],
     /// The network that was last held to its ceilings, and the shape.
     held: [Vec<u8>; 2],
 }
@@ -42,21 +45,34 @@ pub fn compile_rooms(cells: usize) -> [usize; 3] {
     [32 * cells, 16 * if cells == 1 { 1 } else { 3 * cells - 5 }, 2]
 }
 
-/// A call that is lent a table and a work buffer and writes to one more: its name, that buffer's, and how it is made.
-type Writes = (&'static str, &'static str, fn(&dyn Calls, Table, &mut [u8], &mut [u8]) -> u32);
+/// How many settings there are, each a bit of their byte from the lowest on, and how many choices of them.
+const SETTINGS: usize = 3;
+pub const CHOICES: usize = 1 << SETTINGS;
 
-const FORECAST: Writes = ("forecast", "depth", |calls, table, work, depth| calls.forecast(table, work, depth));
-const COMPILE: Writes = ("compile", "network", |calls, table, work, network| calls.compile(table, work, network));
+/// A call that is lent a table, settings or none, and a work buffer, and writes to one more: its name, that buffer's, and
+/// how it is made.
+type Writes = (&'static str, &'static str, fn(&dyn Calls, Table, Option<u8>, &mut [u8], &mut [u8]) -> u32);
 
-/// What a forecast tells of a network: the number of its records, and the depth of the last as it is written. Here the
-/// depths are found from the bytes, one record after the other.
-fn figures(network: &[u8]) -> (u32, Vec<u8>) {
+const FORECAST: Writes = ("forecast", "depth", |calls, table, settings, work, depth| match settings {
+    None => calls.forecast(table, work, depth),
+    Some(settings) => calls.forecast_with(table, settings, work, depth),
+});
+const COMPILE: Writes = ("compile", "network", |calls, table, settings, work, network| match settings {
+    None => calls.compile(table, work, network),
+    Some(settings) => calls.compile_with(table, settings, work, network),
+});
+
+/// What a forecast tells of a network: the number of its records, and the depth of the last.
+pub type Figures = (u32, u16);
+
+/// The figures of a network from its bytes, with the depth of one record after the other.
+fn figures(network: &[u8]) -> Figures {
     let mut depths: Vec<u16> = vec![];
     for record in network.chunks(16) {
         let input = |at: usize| depths[u16::from_le_bytes([record[at], record[at + 1]]) as usize];
         depths.push(if record[0] < 2 { 0 } else { 1 + input(4).max(input(6)) });
     }
-    (depths.len() as u32, depths.last().map_or(vec![], |depth| depth.to_le_bytes().to_vec()))
+    (depths.len() as u32, depths.last().copied().unwrap_or(0))
 }
 
 fn lend(table: &OwnedTable, random: &mut Random) -> [Lent; 3] {
@@ -83,7 +99,9 @@ impl<'a> Session<'a> {
             cases: 0,
             seen: [false; REFUSALS + 1],
             weak_joins: WeakJoins::default(),
+            grown: [None; CHOICES],
             with_weak_joins: [0; 2],
+            with_other_networks: [0; SETTINGS],
             held: [vec![], vec![]],
         }
     }
@@ -225,17 +243,47 @@ impl<'a> Session<'a> {
         self.settle(&call, answer, wanted, REFUSED, &[shape, table_lower, table_upper, &block, &lower, &upper])
     }
 
-    /// Forecasts and compiles, with a work, a network and a depth buffer of these lengths; the network's bytes.
-    pub fn compile(&mut self, given: &OwnedTable, [work, network, depth]: [usize; 3]) -> Outcome<Option<Vec<u8>>> {
-        let lent = stages::Lent::new(&given.shape, &given.lower, &given.upper, work);
-        let wanted = lent.forecast(depth).map(|(records, depth)| (records as u32, depth.to_le_bytes().to_vec()));
-        let foretold = self.write(FORECAST, given, [work, depth], wanted)?;
-        let wanted = lent.compile(network).map(|records| (records.len() as u32, network::bytes(records)));
-        let written = self.write(COMPILE, given, [work, network], wanted)?;
-        self.weak_joins = lent.weak_joins();
+    /// Forecasts and compiles, with a work, a network and a depth buffer of these lengths: without settings, and under
+    /// each choice of them. The network's bytes without; where it is another under one choice, that one is checked here.
+    pub fn compile(&mut self, given: &OwnedTable, rooms: [usize; 3]) -> Outcome<Option<Vec<u8>>> {
+        let mut lent = stages::Lent::new(&given.shape, &given.lower, &given.upper, rooms[0]);
+        let usual = self.grow(&mut lent, given, None, rooms)?;
+        self.weak_joins = lent.weak_joins(Settings::USUAL);
         let WeakJoins { kept, rejected } = self.weak_joins;
         self.with_weak_joins[0] += (kept > 0) as u64;
         self.with_weak_joins[1] += (rejected > 0) as u64;
+        // To check them all would take too long.
+        let checked = self.random.below(CHOICES);
+        for choice in 0..CHOICES {
+            // The other bits mean nothing.
+            let others = if self.random.once_in(2) { self.random.byte() << SETTINGS } else { 0 };
+            let network = self.grow(&mut lent, given, Some(choice as u8 | others), rooms)?;
+            self.grown[choice] = network.as_deref().map(figures);
+            let Some(network) = network.filter(|network| Some(network) != usual.as_ref()) else { continue };
+            if choice.is_power_of_two() {
+                self.with_other_networks[choice.trailing_zeros() as usize] += 1;
+            }
+            if choice == checked {
+                self.check(&network, given, network.len() / 16)?;
+            }
+        }
+        Ok(usual)
+    }
+
+    /// Forecasts and compiles under settings, where there are some; the network's bytes.
+    fn grow(
+        &mut self,
+        lent: &mut stages::Lent,
+        given: &OwnedTable,
+        settings: Option<u8>,
+        [work, network, depth]: [usize; 3],
+    ) -> Outcome<Option<Vec<u8>>> {
+        let grown = settings.map_or(Settings::USUAL, Settings::from_byte);
+        let wanted = lent.forecast(grown, depth).map(|(records, depth)| (records as u32, depth.to_le_bytes().to_vec()));
+        let foretold = self.write(FORECAST, given, settings, [work, depth], wanted)?;
+        let wanted = lent.compile(grown, network).map(|records| (records.len() as u32, network::bytes(records)));
+        let written = self.write(COMPILE, given, settings, [work, network], wanted)?;
+        let foretold = foretold.map(|(records, depth)| (records, u16::from_le_bytes([depth[0], depth[1]])));
         match (foretold, written) {
             (Some(foretold), Some((_, network))) if foretold != figures(&network) => {
                 Err(format!("case {}: forecast {foretold:?} of a network that has {:?}", self.cases, figures(&network)))
@@ -249,6 +297,7 @@ impl<'a> Session<'a> {
         &mut self,
         (name, writes, call): Writes,
         given: &OwnedTable,
+        settings: Option<u8>,
         rooms: [usize; 2],
         wanted: Answer<(u32, Vec<u8>)>,
     ) -> Outcome<Option<(u32, Vec<u8>)>> {
@@ -260,9 +309,10 @@ impl<'a> Session<'a> {
             work.leave_free(32 * cells_of(&given.shape));
             (answer, (answer, bytes))
         });
-        let answer = call(self.calls, table(&lent), work.held_mut(), to.held_mut());
+        let answer = call(self.calls, table(&lent), settings, work.held_mut(), to.held_mut());
+        let name = settings.map_or(name.into(), |settings| format!("{name} with settings {settings:#010b}"));
         let [shape, lower, upper] = &lent;
-        self.settle(name, answer, wanted, REFUSED, &[shape, lower, upper, &work, &to])
+        self.settle(&name, answer, wanted, REFUSED, &[shape, lower, upper, &work, &to])
     }
 
     /// Checks a network with a work buffer of this length.

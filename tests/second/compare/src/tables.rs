@@ -101,6 +101,15 @@ pub fn ungrouped_table(cards: &[u8], grades: u8, random: &mut Random) -> OwnedTa
     })
 }
 
+/// A table of which most stages have a grouping by either gate, and many a tie: few cells have a grade, and for the others
+/// any will do.
+pub fn sparse_table(cards: &[u8], grades: u8, random: &mut Random) -> OwnedTable {
+    let sparse = 2 + random.below(3);
+    OwnedTable::by_rule(cards, grades, |_| {
+        if random.once_in(sparse) { around(random.byte() % grades, grades, random, 1) } else { (0, grades - 1) }
+    })
+}
+
 /// A table that joins by these sets. On a line over one of them some four cells decide the limits, however long the line
 /// is: else a cell that is left out would seldom show.
 pub fn joined_table(cards: &[u8], gate: Gate, sets: Sets, random: &mut Random) -> OwnedTable {

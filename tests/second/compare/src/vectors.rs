@@ -1,8 +1,9 @@
 //! Tables that source documents 000 and 001 print, and public tables whose networks they count. Each is compiled beside
-//! the oracle and held to what the documents say of it; VECTORS.md says what could be taken from them.
+//! the oracle and held to what the documents say of it; VECTORS.md says what could be taken from them. Under settings,
+//! of which the documents know nothing, each is held to the figures that stand here.
 
 use crate::editions::both_files;
-use crate::session::{Join, Outcome, Session, compile_rooms};
+use crate::session::{CHOICES, Figures, Join, Outcome, Session, compile_rooms};
 use calls::tables::OwnedTable;
 use calls::{Edition, Gate};
 use oracle::stages::WeakJoins;
@@ -166,6 +167,32 @@ fn public_tables() -> Vec<Vector> {
     tables.into_iter().map(|(name, printed, facts, table)| Vector { name, printed, table, facts }).collect()
 }
 
+/// Records and depths under each choice of settings, by the number of its byte. The other tables have the same under all.
+const GROWN: [(&str, [Figures; CHOICES]); 4] = [
+    ("001 table 1.2", [(7, 3), (7, 3), (7, 3), (7, 3), (13, 4), (13, 4), (13, 4), (13, 4)]),
+    ("monks 2", [(155, 11), (155, 11), (327, 13), (327, 13), (543, 15), (543, 15), (815, 15), (815, 15)]),
+    ("monks 3", [(7, 2), (9, 3), (7, 2), (9, 3), (7, 2), (15, 4), (7, 2), (19, 5)]),
+    ("balance", [(527, 15); CHOICES]),
+];
+
+/// Holds the networks of the table that was compiled last to their figures under each choice of settings.
+fn grown(session: &Session, name: &str) -> Outcome<()> {
+    let found = session.grown.map(|figures| figures.unwrap_or_default());
+    let (_, wanted) = GROWN.into_iter().find(|(other, _)| *other == name).unwrap_or((name, [found[0]; CHOICES]));
+    if found == wanted { Ok(()) } else { Err(format!("{name}: under settings {found:?}, expected {wanted:?}")) }
+}
+
+/// Prints what the networks that settings change have been held to.
+fn print_grown() {
+    println!("\n| records, depth under settings | 0 | 1 | 2 | 3 | 4 | 5 | 6 | 7 |");
+    println!("|---|---|---|---|---|---|---|---|---|");
+    for (name, figures) in GROWN {
+        let shown: String = figures.iter().map(|(records, depth)| format!(" {records}, {depth} |")).collect();
+        println!("| {name} |{shown}");
+    }
+    println!();
+}
+
 fn count(network: &[u8], kinds: &[u8]) -> usize {
     network.chunks(16).filter(|record| kinds.contains(&record[0])).count()
 }
@@ -219,7 +246,7 @@ fn unlisted(session: &mut Session, table: &OwnedTable) -> Outcome<String> {
 }
 
 /// Compiles every vector, as it is printed and, where it has don't-cares, as a file without them has it; prints a table of
-/// them, and fails where a document's fact does not hold.
+/// them and one of their networks under settings, and fails where a document's fact does not hold.
 pub fn run(session: &mut Session) -> Outcome<()> {
     println!(
         "| table | cells | records | gates | literals | weak joins: kept, rejected | printed: gates, literals \
@@ -232,6 +259,7 @@ pub fn run(session: &mut Session) -> Outcome<()> {
         let cells = table.cells();
         let network = compile(session, &table)?;
         let WeakJoins { kept, rejected } = session.weak_joins;
+        grown(session, name)?;
         let unlisted = unlisted(session, &table).map_err(|fault| format!("{name}: {fault}"))?;
         let (records, gates, literals) = (network.len() / 16, count(&network, &[2, 3]), count(&network, &[1]));
         let weak = format!("{kept}, {rejected}");
@@ -242,5 +270,6 @@ pub fn run(session: &mut Session) -> Outcome<()> {
             }
         }
     }
+    print_grown();
     Ok(())
 }

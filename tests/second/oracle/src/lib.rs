@@ -39,7 +39,7 @@ pub type Answer<T> = Result<T, u32>;
 /// The value of each condition in one cell; 0 for a condition that is not there.
 pub type Values = [u8; 8];
 
-#[derive(Clone, Copy, Debug, PartialEq, Eq)]
+#[derive(Clone, Copy, Debug, PartialEq, Eq, Hash)]
 pub enum Gate {
     Min,
     Max,
@@ -54,7 +54,7 @@ impl Gate {
     }
 }
 
-#[derive(Clone, Copy, Debug, PartialEq, Eq)]
+#[derive(Clone, Copy, Debug, PartialEq, Eq, Hash)]
 pub struct Limits {
     pub lower: u8,
     pub upper: u8,
@@ -162,7 +162,7 @@ impl Shape {
 }
 
 /// Limits for every combination of values of some conditions; the other conditions have value 0 in each cell.
-#[derive(Clone, Debug)]
+#[derive(Clone, Debug, PartialEq, Eq, Hash)]
 pub struct Table {
     pub conditions: Vec<usize>,
     pub limits: BTreeMap<Values, Limits>,

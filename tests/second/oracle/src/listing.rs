@@ -1,14 +1,15 @@
 //! What the program `grades` prints: document 01, the end of section "Small tables to prove".
 
 use crate::network::Record;
-use crate::{Answer, Gate, Shape, file, stages};
+use crate::stages::{Lent, Settings};
+use crate::{Answer, Gate, Shape, file};
 
 /// The lines for a table file that is not refused.
 pub fn listing(bytes: &[u8]) -> Answer<String> {
     let read = file::read(bytes, usize::MAX, usize::MAX, usize::MAX)?;
     let shape = Shape::from_bytes(&read.shape)?;
-    let lent = stages::Lent::new(&read.shape, &read.lower, &read.upper, usize::MAX);
-    let records = lent.compile(usize::MAX)?;
+    let mut lent = Lent::new(&read.shape, &read.lower, &read.upper, usize::MAX);
+    let records = lent.compile(Settings::USUAL, usize::MAX)?;
     let lines = records.iter().enumerate().map(|(number, record)| format!("{number} {}\n", shown(record, &shape)));
     Ok(lines.collect::<String>() + &format!("records {}\n", records.len()))
 }

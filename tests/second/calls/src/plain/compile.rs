@@ -1,28 +1,29 @@
-//! Compiling and a forecast: document 01, "Stages", with the weak joins that request 5 has before a split. A stage of c
-//! cells has eight parts of c bytes of the work buffer and lends the rest to the stages that it starts. They have half of
-//! its cells at most, but for the first block of a weak join, which has all and takes no weak join itself: so a stage
-//! needs 32 × c bytes, and such a block 24 × c. The stages of both calls are the same; they differ in what becomes of a
-//! record.
+//! Compiling and a forecast: document 01, "Stages", with the weak joins that request 5 has before a split, under the
+//! settings of request 8. A stage of c cells has eight parts of c bytes of the work buffer and lends the rest to the
+//! stages that it starts. They have half of its cells at most, but for the first block of a weak join, which has all and
+//! takes no weak join itself: so a stage needs 32 × c bytes, and such a block 24 × c. The stages of both calls are the
+//! same; they differ in what becomes of a record.
 
 use super::grouping::{Sides, first_weak};
 use super::join::{Pair, exchange, reach};
 use super::records::{Counted, RECORD, Records, Written};
 use super::shape::{PLACES, Places, Shape, members};
 use super::{Answer, refuse_if};
-use crate::{Gate, Table};
+use crate::{Gate, MIN_WINS_TIES, NO_WEAK_JOINS, SPLITS_ON_MOST, Table};
+use std::cmp::Reverse;
 
 /// The work bytes for each cell.
 const WORK: usize = 32;
 
-pub fn compile(table: Table, work: &mut [u8], network: &mut [u8]) -> Answer<u32> {
+pub fn compile(table: Table, settings: u8, work: &mut [u8], network: &mut [u8]) -> Answer<u32> {
     let room = network.len() / RECORD;
     let has_room = |cells| room >= if cells == 1 { 1 } else { 3 * cells - 5 };
-    let (written, _) = stages(table, work, has_room, Written::new(network))?;
+    let (written, _) = stages(table, settings, work, has_room, Written::new(network))?;
     Ok(written.count as u32)
 }
 
-pub fn forecast(table: Table, work: &mut [u8], depth: &mut [u8]) -> Answer<u32> {
-    let (counted, of_last) = stages(table, work, |_| depth.len() >= 2, Counted::default())?;
+pub fn forecast(table: Table, settings: u8, work: &mut [u8], depth: &mut [u8]) -> Answer<u32> {
+    let (counted, of_last) = stages(table, settings, work, |_| depth.len() >= 2, Counted::default())?;
     depth[..2].copy_from_slice(&(of_last as u16).to_le_bytes());
     Ok(counted.count as u32)
 }
@@ -30,6 +31,7 @@ pub fn forecast(table: Table, work: &mut [u8], depth: &mut [u8]) -> Answer<u32> 
 /// All stages of a table, if `has_room` for its cells; its records, and the number that stands for the last.
 fn stages<R: Records>(
     table: Table,
+    settings: u8,
     work: &mut [u8],
     has_room: impl FnOnce(usize) -> bool,
     records: R,
@@ -41,13 +43,14 @@ fn stages<R: Records>(
     shape.judge_limits(table.lower, table.upper)?;
     work[..cells].copy_from_slice(&table.lower[..cells]);
     work[cells..2 * cells].copy_from_slice(&table.upper[..cells]);
-    let mut compiling = Compiling { grades: shape.grades, records };
+    let mut compiling = Compiling { grades: shape.grades, settings, records };
     let last = compiling.stage(shape.places, true, &mut work[..WORK * cells]);
     Ok((compiling.records, last))
 }
 
 struct Compiling<R> {
     grades: u8,
+    settings: u8,
     records: R,
 }
 
@@ -86,6 +89,27 @@ fn drop_conditions(mut places: Places, work: &mut [u8]) -> Places {
 }
 
 impl<R: Records> Compiling<R> {
+    fn has_set(&self, setting: u8) -> bool {
+        self.settings & setting != 0
+    }
+
+    /// Whether max is taken where both gates have a grouping, with these ranks.
+    fn takes_max(&self, of_max: (u32, u32), of_min: (u32, u32)) -> bool {
+        if self.has_set(MIN_WINS_TIES) { of_max < of_min } else { of_max <= of_min }
+    }
+
+    /// The condition that a split takes.
+    fn split_condition(&self, places: &Places) -> usize {
+        let mut left = members(places.present);
+        let found = if self.has_set(SPLITS_ON_MOST) {
+            // Of equals this takes the first.
+            left.min_by_key(|&condition| Reverse(places.card(condition)))
+        } else {
+            left.next()
+        };
+        found.unwrap_or(0)
+    }
+
     /// Compiles the limits at the front of the work buffer, and leaves there the grades of the function that the
     /// records compute; the number that stands for the last record. `may`: whether the stage may take a weak join, as
     /// it may where it has dropped a condition.
@@ -124,7 +148,7 @@ impl<R: Records> Compiling<R> {
         exchange(turned_upper, lower, self.grades);
         let max_exists = by_max.find(lower, upper, places);
         let min_exists = by_min.find(turned_lower, turned_upper, places);
-        if max_exists && (!min_exists || by_max.rank() <= by_min.rank()) {
+        if max_exists && (!min_exists || self.takes_max(by_max.rank(), by_min.rank())) {
             let join = Join { gate: Gate::Max, lower, sides: by_max };
             let last = self.join(places, &join, [turned_lower, turned_upper], rest);
             lower.copy_from_slice(turned_upper);
@@ -135,6 +159,7 @@ impl<R: Records> Compiling<R> {
             return self.join(places, &join, [upper, lower], rest);
         }
         let limits = Pair { lower, upper };
+        let may = may && !self.has_set(NO_WEAK_JOINS);
         let weak = if may { first_weak(&limits, places, self.grades - 1) } else { None };
         let last = match weak {
             None => self.split(places, &limits, turned_upper, rest),
@@ -154,7 +179,7 @@ impl<R: Records> Compiling<R> {
     /// the three spare parts the last has the function afterwards.
     fn fewer(&mut self, places: &Places, weak: &Join, limits: &Pair, spare: [&mut [u8]; 3], rest: &mut [u8]) -> usize {
         let [reached, by_weak, function] = spare;
-        let mut counting = Compiling { grades: self.grades, records: Counted::default() };
+        let mut counting = Compiling { grades: self.grades, settings: self.settings, records: Counted::default() };
         let last_of_weak = counting.join(places, weak, [reached, by_weak], rest);
         let of_weak = std::mem::take(&mut counting.records);
         let last_of_split = counting.split(places, limits, function, rest);
@@ -208,9 +233,27 @@ impl<R: Records> Compiling<R> {
         self.stage(seen, blind != 0, rest)
     }
 
-    /// The lowest condition has nothing but ones below it, so its value k has the cells k, k + card, k + 2 × card ..
+    /// The lowest condition has nothing but ones below it, and so the stride 1. Given as a constant, it makes the usual
+    /// split a loop over single cells, which would else be one over parts of one cell.
     fn split(&mut self, places: &Places, limits: &Pair, function: &mut [u8], rest: &mut [u8]) -> usize {
-        let condition = places.present.trailing_zeros() as usize;
+        let condition = self.split_condition(places);
+        match places.stride(condition) {
+            1 => self.split_on(condition, 1, places, limits, function, rest),
+            stride => self.split_on(condition, stride, places, limits, function, rest),
+        }
+    }
+
+    /// Of each stride × card cells, value k of the condition has the k-th part of `stride` cells.
+    #[inline(always)]
+    fn split_on(
+        &mut self,
+        condition: usize,
+        stride: usize,
+        places: &Places,
+        limits: &Pair,
+        function: &mut [u8],
+        rest: &mut [u8],
+    ) -> usize {
         let card = places.card(condition);
         let below = places.without(1 << condition);
         let cells = below.cells;
@@ -220,10 +263,14 @@ impl<R: Records> Compiling<R> {
             grades[value] = self.grades - 1;
             let literal = self.records.literal(condition, &grades);
             let (to_lower, to_upper) = rest.split_at_mut(cells);
-            to_lower.iter_mut().zip(limits.lower.chunks_exact(card)).for_each(|(to, line)| *to = line[value]);
-            to_upper.iter_mut().zip(limits.upper.chunks_exact(card)).for_each(|(to, line)| *to = line[value]);
+            let here = stride * value..stride * (value + 1);
+            for (to, from) in [(to_lower, limits.lower), (to_upper, limits.upper)] {
+                let lines = to.chunks_exact_mut(stride).zip(from.chunks_exact(stride * card));
+                lines.for_each(|(to, line)| to.copy_from_slice(&line[here.clone()]));
+            }
             let stage = self.stage(below, true, rest);
-            function.chunks_exact_mut(card).zip(&*rest).for_each(|(line, grade)| line[value] = *grade);
+            let lines = function.chunks_exact_mut(stride * card).zip(rest.chunks_exact(stride));
+            lines.for_each(|(line, from)| line[here.clone()].copy_from_slice(from));
             let least = self.records.gate(Gate::Min, literal, stage);
             total = Some(match total {
                 None => least,
