@@ -284,15 +284,20 @@ static void extremes(void)
     joining(JOIN_MAX);
 }
 
-/* Tables that a seed decides, in which stages drop, join and split at all depths. */
+/* Tables that a seed decides, in which stages drop, join and split at all depths. In shapes whose last
+ * conditions have most values a split may take another than the lowest, by longer rows. */
 static void mixtures(void)
 {
+    static const uint8_t shapes[][9] = {{8, 2, 2, 2, 2, 2, 2, 2},
+                                        {2, 2, 2, 2, 2, 2, 3, 5},
+                                        {2, 2, 2, 2, 2, 2, 4, 4},
+                                        {2, 2, 2, 2, 2, 3, 3, 3}};
     uint32_t seed = 1, cell;
     unsigned table;
 
     for (table = 0; table < 64; table++) {
         uint8_t m = (uint8_t)(2 + table % 15);
-        make_shape(table % 4 == 0 ? eight_and_twos : twos, m);
+        make_shape(table % 2 == 0 ? shapes[table / 2 % 4] : twos, m);
         for (cell = 0; cell < cells; cell++) {
             seed = seed * 1664525u + 1013904223u;
             lower[cell] = (uint8_t)((seed >> 24) % m);

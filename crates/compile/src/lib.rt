@@ -11,6 +11,7 @@ use rules::Refusal;
 use rules::Settings;
 use shape::Shape;
 use stage_steps::gates::Extent;
+use stages::Begin;
 use tables::fill;
 use tables::limits;
 
@@ -174,8 +175,7 @@ fn build(
         cells,
         shape.m,
         0,
-        false,
-        true,
+        Begin::Fresh,
         false,
         how,
     )

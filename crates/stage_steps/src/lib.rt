@@ -2,5 +2,5 @@
 pub mod cuts;
 pub mod ends;
 pub mod gates;
-pub mod rows;
+pub mod value_rows;
 pub mod values;

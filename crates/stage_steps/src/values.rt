@@ -1,8 +1,8 @@
 // Step 6 of a stage: what a split does for one value, before and after that value's stage.
 use crate::gates;
 use crate::gates::Extent;
-use crate::rows;
-use crate::rows::TABLES;
+use crate::value_rows;
+use crate::value_rows::TABLES;
 use network_records::put_selector;
 use rules::Gate;
 use tables::fill;
@@ -37,7 +37,7 @@ pub fn begin_value(
     if step == 1 {
         moves::cofactor(w, 0, 8 * c, 4 * n, apart, k);
     } else {
-        rows::lay(w, c, n, step, values, k, i, TABLES);
+        value_rows::lay(w, c, n, step, values, k, i, TABLES);
     }
     Extent {
         next: r + 1,
@@ -64,7 +64,7 @@ pub fn keep_value(
         if step == 1 {
             moves::uncofactor(w, 8 * c, 4 * c, n, apart, k);
         } else {
-            rows::give(w, c, step, values, k, 0, n / step);
+            value_rows::give(w, c, step, values, k, 0, n / step);
         }
     }
 }

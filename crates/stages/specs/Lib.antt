@@ -1,2 +1,3 @@
 -- What the contracts of stages cite.
 pub mod Staging
+pub mod Begins

@@ -16,7 +16,7 @@ use weak_joins::Candidates;
 use weak_joins::Weak;
 ghost use Prim.Native.Nat.{_≤_, _<_};
 ghost use mathlib.Core.Path.{_≡_};
-ghost use mathlib.Core.Bool.{_&&_, _||_};
+ghost use mathlib.Core.Bool.{false, _&&_, _||_};
 ghost use lib.Dec.{ltb};
 ghost use Rattle.rules.specs.Cell.{width, singleton};
 ghost use Rattle.rules.specs.Settings.{settingsOf};
@@ -25,7 +25,39 @@ ghost use Rattle.places.specs.Conditions.{IsLowest};
 ghost use Rattle.tables.specs.Part.{Shaped};
 ghost use Rattle.stage_drops.specs.Working.{frontStage};
 ghost use Rattle.stage_steps.specs.Cuts.{IsCut};
+ghost use Rattle.stages.specs.Begins.{isMasked, mayTake};
 ghost use Rattle.stages.specs.Staging.{Starts, Written, Numbered, splitsOn, Splits, Divided, CanJoin, Joined, Tries, Counted, triedIf, Divides};
+
+// How a stage begins. One that a split starts finds its masks behind its limits; another makes them. The first block
+// of a weak join may take no weak join itself until it has lost a condition. One argument for both: a stage has many,
+// and each more is sixteen bytes of stack in all that are nested.
+pub enum Begin {
+    Masked,
+    Fresh,
+    Tight,
+}
+
+// Whether the masks are known.
+fn masked(begin: Begin) -> bool
+    ensures { λ r. ⌜ r ≡ isMasked begin ⌝ }
+{
+    match begin {
+        Begin::Masked => true,
+        Begin::Fresh => false,
+        Begin::Tight => false,
+    }
+}
+
+// Whether a weak join may be taken.
+fn may_take(begin: Begin) -> bool
+    ensures { λ r. ⌜ r ≡ mayTake begin ⌝ }
+{
+    match begin {
+        Begin::Masked => true,
+        Begin::Fresh => true,
+        Begin::Tight => false,
+    }
+}
 
 // The condition that a split takes.
 fn split_on(ks: [u8; PLACES], low: Condition, how: u8) -> Cut
@@ -83,8 +115,7 @@ fn split(
             n,
             m,
             literal.next,
-            true,
-            true,
+            Begin::Masked,
             want,
             how,
         );
@@ -104,13 +135,13 @@ fn join(
     c: usize,
     gate: Gate,
     of: Sets,
-    may: bool,
+    begin: Begin,
     r: usize,
     want: bool,
     how: u8,
 ) -> Extent
-    requires { ⌜ CanJoin (settingsOf how) gate m ks (of .s) (of .t) may c (now w) r ⌝ }
-    ensures { λ n. ⌜ Joined (settingsOf how) gate m ks (of .s) (of .t) may c want (now (w .entry)) (now (network .entry)) r n (now (w .exit)) (now (network .exit)) ⌝ }
+    requires { ⌜ CanJoin (settingsOf how) gate m ks (of .s) (of .t) (mayTake begin) c (now w) r × (isMasked begin ≡ false) ⌝ }
+    ensures { λ n. ⌜ Joined (settingsOf how) gate m ks (of .s) (of .t) (mayTake begin) c want (now (w .entry)) (now (network .entry)) r n (now (w .exit)) (now (network .exit)) ⌝ }
 {
     let rest = 8 * c;
     let first_block = stage_blocks::first_table(w, gate, m, ks, of.t, c);
@@ -122,8 +153,7 @@ fn join(
         first_block.cells,
         m,
         r,
-        false,
-        may,
+        begin,
         true,
         how,
     );
@@ -136,8 +166,7 @@ fn join(
         second_block.cells,
         m,
         first.next,
-        false,
-        true,
+        Begin::Fresh,
         want,
         how,
     );
@@ -175,7 +204,19 @@ fn count_both(
     let mut none = [0u8; 0];
     let split = split(w, &mut none, ks, low, m, c, 0, want, how);
     weak_joins::open(w, gate, m, ks, i, c);
-    let weak = join(w, &mut none, ks, m, c, gate, alone(i), false, 0, want, how);
+    let weak = join(
+        w,
+        &mut none,
+        ks,
+        m,
+        c,
+        gate,
+        alone(i),
+        Begin::Tight,
+        0,
+        want,
+        how,
+    );
     Candidates { split, weak }
 }
 
@@ -204,7 +245,19 @@ fn shorter(
     let counted = count_both(w, ks, low, m, c, gate, i, false, how);
     if counted.weak.next < counted.split.next {
         weak_joins::reopen(w, ks, i, c);
-        return join(w, network, ks, m, c, gate, alone(i), false, r, want, how);
+        return join(
+            w,
+            network,
+            ks,
+            m,
+            c,
+            gate,
+            alone(i),
+            Begin::Tight,
+            r,
+            want,
+            how,
+        );
     }
     weak_joins::restore(w, gate, m, ks, c);
     let of = split(w, network, ks, low, m, c, r, want, how);
@@ -240,13 +293,13 @@ fn divide(
 
 // Whether a stage of c cells, of which n are left, tries a weak join: where these are tried at all, if it might before, or
 // has lost a condition.
-fn tries(how: u8, may: bool, n: usize, c: usize) -> bool
-    ensures { λ r. ⌜ r ≡ (settingsOf how .weak && (may || ltb n c)) ⌝ }
+fn tries(how: u8, begin: Begin, n: usize, c: usize) -> bool
+    ensures { λ r. ⌜ r ≡ (settingsOf how .weak && (mayTake begin || ltb n c)) ⌝ }
 {
     if !settings::weak(how) {
         return false;
     }
-    if may { true } else { n < c }
+    if may_take(begin) { true } else { n < c }
 }
 
 // The network of the stage over ks, of c cells, whose limits are at the front of the work buffer and, where they are
@@ -259,14 +312,14 @@ pub fn stage(
     c: usize,
     m: u8,
     r: usize,
-    known: bool,
-    may: bool,
+    begin: Begin,
     want: bool,
     how: u8,
 ) -> Extent
-    requires { ⌜ Starts (settingsOf how) m ks c known may (now w) r ⌝ }
-    ensures { λ of. ⌜ Written ks (treeOf (settingsOf how) m may (frontStage ks (now (w .entry)))) 0 want (now (w .entry)) (now (network .entry)) r of (now (w .exit)) (now (network .exit)) ⌝ }
+    requires { ⌜ Starts (settingsOf how) m ks c (isMasked begin) (mayTake begin) (now w) r ⌝ }
+    ensures { λ of. ⌜ Written ks (treeOf (settingsOf how) m (mayTake begin) (frontStage ks (now (w .entry)))) 0 want (now (w .entry)) (now (network .entry)) r of (now (w .exit)) (now (network .exit)) ⌝ }
 {
+    let known = masked(begin);
     let plan = stage_plan::plan_stage(w, ks, m, c, known, how);
     let left = plan.places;
     let n = plan.cells;
@@ -283,12 +336,24 @@ pub fn stage(
                 m,
                 n,
                 r,
-                tries(how, may, n, c),
+                tries(how, begin, n, c),
                 want,
                 how,
             )
         }
-        Choice::Join(gate, sets) => join(w, network, left, m, n, gate, sets, true, r, want, how),
+        Choice::Join(gate, sets) => join(
+            w,
+            network,
+            left,
+            m,
+            n,
+            gate,
+            sets,
+            Begin::Fresh,
+            r,
+            want,
+            how,
+        ),
     };
     ends::spread_if(w, want, left, ks, n, c);
     of

@@ -10,8 +10,10 @@ use Rattle.rules.specs.Cell.{width}
 use Rattle.rules.specs.Stage.{treeOf}
 use Rattle.stage_drops.specs.Working.{frontStage}
 use Rattle.rules.specs.Settings.{settingsOf}
+use Rattle.stages.specs.Begins.{mayTake}
 use Rattle.stages.specs.Staging.{Written, Splits}
 use Rattle.stages.proofs.ChildLaws.{stageRank, divideRank, joinRank, divide-some}
+use Rattle.stages.proofs.BeginLaws.{starts-unmasked}
 use Rattle.stages.proofs.SplitStageLaws.{Axis, Turn, InTurn, found-cut, found-splits, found-divided, cut-room, turn-none, number-below, values-some, axis, apart-low, value-room, value-starts, value-falls, value-back, gates-room, value-keep, turn-more, split-whole, collect-room, split-done}
 use Rattle.stages.proofs.StageEndLaws.{written-here, plan-room, spread-room, still, divide-falls, join-falls, whole, leaf-room, leaf-done, divides, divide-done, joins, join-done}
 use Rattle.stages.proofs.BlockStageLaws.{first-room, first-starts, first-falls, first-back, second-room, second-starts, second-falls, second-back, close-room, joined-whole, joined-aside, joined-lows}
@@ -48,6 +50,7 @@ use Rattle.stage_steps.proofs.values.collect.Reads as collect-reads
 use Rattle.stage_steps.proofs.values.end_value.Reads as end-value-reads
 use Rattle.stage_steps.proofs.values.keep_value.Reads as keep-value-reads
 use Rattle.stages.proofs.alone.Reads as alone-reads
+use Rattle.stages.proofs.masked.Reads as masked-reads
 use Rattle.stages.proofs.split_on.Reads as split-on-reads
 use Rattle.stages.proofs.tries.Reads as tries-reads
 use Rattle.weak_joins.proofs.first_weak.Reads as first-weak-reads
@@ -66,7 +69,7 @@ abbrev μ-divide : Measures 2 divide-kinds.ps ℕ
 μ-divide κs a = divideRank (a .1 .1 .1 .1 .1 .1 .1 .0) (a .1 .1 .0)
 
 abbrev μ-join : Measures 2 join-kinds.ps ℕ
-μ-join κs a = joinRank (a .1 .1 .1 .1 .1 .1 .1 .0) (a .1 .1 .0)
+μ-join κs a = joinRank (mayTake (a .1 .1 .1 .1 .1 .1 .1 .0)) (a .1 .1 .0)
 
 abbrev μ-shorter : Measures 2 shorter-kinds.ps ℕ
 μ-shorter κs a = 16 * width (a .1 .1 .0) + 10
@@ -75,7 +78,7 @@ abbrev μ-split : Measures 2 split-kinds.ps ℕ
 μ-split κs a = 16 * width (a .1 .1 .0)
 
 abbrev μ-stage : Measures 2 stage-kinds.ps ℕ
-μ-stage κs a = stageRank (a .1 .1 .1 .1 .1 .1 .1 .0) (a .1 .1 .0)
+μ-stage κs a = stageRank (mayTake (a .1 .1 .1 .1 .1 .1 .0)) (a .1 .1 .0)
 
 abbrev count-both-at : ℕ → In 1 count-both-kinds.ps
 count-both-at t = and 1 count-both-kinds.ps (is 1 count-both-kinds.ps μ-count-both t) count-both.Pre
@@ -135,21 +138,21 @@ split-claims t = (split-on-reads.Asked, split-on-reads.Learnt, without-one-reads
 
 -- what `stage` asks and learns of the functions that it calls
 abbrev stage-claims : ℕ → stage-lts.Claims
-stage-claims t = (plan-stage-reads.Asked, plan-stage-reads.Learnt, leaf-reads.Asked, leaf-reads.Learnt, tries-reads.Asked, tries-reads.Learnt, divide-below t, divide.Post, join-below t, join.Post, spread-if-reads.Asked, spread-if-reads.Learnt)
+stage-claims t = (masked-reads.Asked, masked-reads.Learnt, plan-stage-reads.Asked, plan-stage-reads.Learnt, leaf-reads.Asked, leaf-reads.Learnt, tries-reads.Asked, tries-reads.Learnt, divide-below t, divide.Post, join-below t, join.Post, spread-if-reads.Asked, spread-if-reads.Learnt)
 
 join-mul-rest : (t : ℕ) → join-lts.Need-mul-rest (join-claims t) (join-at t) join.Post
 join-mul-rest t c =
-    let j = c .before .before .pre .1 .1 in
+    let j = c .before .before .pre .1 .0 .1 in
     let h = j .left .work in
     search needs
 
 join-first-table-requires : (t : ℕ) → join-lts.Need-first-table-requires (join-claims t) (join-at t) join.Post
-join-first-table-requires t c κs = first-room (c .before .before .before .pre .1 .1)
+join-first-table-requires t c κs = first-room (c .before .before .before .pre .1 .0 .1)
 
 -- the parts of a stage end within its buffer, before either block's stage
 join-parts : (t : ℕ) (c : join-lts.After-a (join-claims t) (join-at t) join.Post) → 8 * c .before .before .before .before .before .before .before .args .c ≤ length (c .before .before .before .first-table .last .0)
 join-parts t c =
-    let h = c .before .before .before .before .before .before .before .pre .1 .1 .left .work in
+    let h = c .before .before .before .before .before .before .before .pre .1 .0 .1 .left .work in
     let e = c .before .before .before .first-table .ensures .0 .len in
     omega arith
 
@@ -165,20 +168,20 @@ join-part-stage-end t c = let h = join-parts t c in search needs
 join-stage-requires : (t : ℕ) → join-lts.Need-stage-requires (join-claims t) (join-at t) join.Post
 join-stage-requires t c κs =
     let b = c .before .before .before .before .before .before .before .before .before in
-    let j = b .pre .1 .1 in
+    let j = b .pre .1 .0 .1 in
     let f = c .before .before .before .before .before .first-table .ensures in
-    (let e = b .pre .0 in let h = first-falls j (f .0) in omega arith, first-starts j (f .0) (f .1))
+    (let e = b .pre .0 in let h = first-falls j (f .0) in omega arith, starts-unmasked (b .pre .1 .1) (first-starts j (f .0) (f .1)))
 
 join-second-table-requires : (t : ℕ) → join-lts.Need-second-table-requires (join-claims t) (join-at t) join.Post
 join-second-table-requires t c κs =
-    let j = c .before .before .before .before .before .before .before .before .before .before .before .before .before .before .before .pre .1 .1 in
+    let j = c .before .before .before .before .before .before .before .before .before .before .before .before .before .before .before .pre .1 .0 .1 in
     let f = c .before .before .before .before .before .before .before .before .before .before .before .first-table .ensures .0 in
     let x = c .before .before .before .before .before .stage .ensures in
     second-room j f x (first-back j f x)
 
 join-parts-2 : (t : ℕ) (c : join-lts.After-b (join-claims t) (join-at t) join.Post) → 8 * c .before .before .before .before .before .before .before .before .before .before .before .before .before .before .before .before .before .before .before .args .c ≤ length (c .before .before .before .second-table .last .0)
 join-parts-2 t c =
-    let j = c .before .before .before .before .before .before .before .before .before .before .before .before .before .before .before .before .before .before .before .pre .1 .1 in
+    let j = c .before .before .before .before .before .before .before .before .before .before .before .before .before .before .before .before .before .before .before .pre .1 .0 .1 in
     let f = c .before .before .before .before .before .before .before .before .before .before .before .before .before .before .before .first-table .ensures .0 in
     let h = j .left .work in
     let k = first-back j f (c .before .before .before .before .before .before .before .before .before .stage .ensures) .len in
@@ -198,7 +201,7 @@ join-part-stage-end-2 t c = let h = join-parts-2 t c in search needs
 join-stage-requires-2 : (t : ℕ) → join-lts.Need-stage-requires-2 (join-claims t) (join-at t) join.Post
 join-stage-requires-2 t c κs =
     let b = c .before .before .before .before .before .before .before .before .before .before .before .before .before .before .before .before .before .before .before .before .before in
-    let j = b .pre .1 .1 in
+    let j = b .pre .1 .0 .1 in
     let f = c .before .before .before .before .before .before .before .before .before .before .before .before .before .before .before .before .before .first-table .ensures .0 in
     let x = c .before .before .before .before .before .before .before .before .before .before .before .stage .ensures in
     let k = first-back j f x in
@@ -207,7 +210,7 @@ join-stage-requires-2 t c κs =
 
 join-close-join-requires : (t : ℕ) → join-lts.Need-close-join-requires (join-claims t) (join-at t) join.Post
 join-close-join-requires t c κs =
-    let j = c .before .before .before .before .before .before .before .before .before .before .before .before .before .before .before .before .before .before .before .before .before .before .before .before .before .before .before .before .pre .1 .1 in
+    let j = c .before .before .before .before .before .before .before .before .before .before .before .before .before .before .before .before .before .before .before .before .before .before .before .before .before .before .before .before .pre .1 .0 .1 in
     let f = c .before .before .before .before .before .before .before .before .before .before .before .before .before .before .before .before .before .before .before .before .before .before .before .before .first-table .ensures .0 in
     let x = c .before .before .before .before .before .before .before .before .before .before .before .before .before .before .before .before .before .before .stage .ensures in
     let k = first-back j f x in
@@ -217,7 +220,7 @@ join-close-join-requires t c κs =
 
 join-returns : (t : ℕ) → join-lts.Need-returns (join-claims t) (join-at t) join.Post
 join-returns t c =
-    let j = c .before .before .before .before .before .before .before .before .before .before .before .before .before .before .before .before .before .before .before .before .before .before .before .before .before .before .before .before .before .before .before .before .before .pre .1 .1 in
+    let j = c .before .before .before .before .before .before .before .before .before .before .before .before .before .before .before .before .before .before .before .before .before .before .before .before .before .before .before .before .before .before .before .before .before .pre .1 .0 .1 in
     let f = c .before .before .before .before .before .before .before .before .before .before .before .before .before .before .before .before .before .before .before .before .before .before .before .before .before .before .before .before .before .first-table .ensures .0 in
     let x = c .before .before .before .before .before .before .before .before .before .before .before .before .before .before .before .before .before .before .before .before .before .before .before .stage .ensures in
     let z = c .before .before .before .before .before .before .before .before .before .before .before .before .before .before .before .before .before .second-table .ensures .0 in
@@ -234,10 +237,10 @@ join-returns t c =
     }
 
 join-same-length : (t : ℕ) → join-lts.Need-same-length (join-claims t) (join-at t) join.Post
-join-same-length t c = join-returns t c .whole _ (c .before .before .before .before .before .before .before .before .before .before .before .before .before .before .before .before .before .before .before .before .before .before .before .before .before .before .before .before .before .before .before .before .before .pre .1 .1) .len
+join-same-length t c = join-returns t c .whole _ (c .before .before .before .before .before .before .before .before .before .before .before .before .before .before .before .before .before .before .before .before .before .before .before .before .before .before .before .before .before .before .before .before .before .pre .1 .0 .1) .len
 
 join-same-length-2 : (t : ℕ) → join-lts.Need-same-length-2 (join-claims t) (join-at t) join.Post
-join-same-length-2 t c = join-returns t c .whole _ (c .before .before .before .before .before .before .before .before .before .before .before .before .before .before .before .before .before .before .before .before .before .before .before .before .before .before .before .before .before .before .before .before .before .pre .1 .1) .put .put .len
+join-same-length-2 t c = join-returns t c .whole _ (c .before .before .before .before .before .before .before .before .before .before .before .before .before .before .before .before .before .before .before .before .before .before .before .before .before .before .before .before .before .before .before .before .before .pre .1 .0 .1) .put .put .len
 
 abbrev split-Inv-loop : split-lts.InvT-loop
 split-Inv-loop w₀ network₀ m c r want how i values stp b n apart rest total₀ k₀ w network total k =
@@ -376,14 +379,19 @@ split-same-length t c = split-returns t c .written .len
 split-same-length-2 : (t : ℕ) → split-lts.Need-same-length-2 (split-claims t) (split-at t) split.Post split-Inv-loop split-μ-loop
 split-same-length-2 t c = split-returns t c .written .put .put .len
 
+stage-masked-requires : (t : ℕ) → stage-lts.Need-masked-requires (stage-claims t) (stage-at t) stage.Post
+stage-masked-requires t c κs = search needs
+
 stage-plan-stage-requires : (t : ℕ) → stage-lts.Need-plan-stage-requires (stage-claims t) (stage-at t) stage.Post
-stage-plan-stage-requires t c κs = plan-room (c .before .before .before .pre .1)
+stage-plan-stage-requires t c κs =
+    let p = plan-room (c .before .before .before .before .pre .1) in
+    (p .0, p .1, λ e. p .2 (sym (c .before .masked .ensures) ∙ e))
 
 stage-enum-told : (t : ℕ) → stage-lts.Need-enum-told (stage-claims t) (stage-at t) stage.Post
 stage-enum-told t c = search needs
 
 stage-leaf-requires : (t : ℕ) → stage-lts.Need-leaf-requires (stage-claims t) (stage-at t) stage.Post
-stage-leaf-requires t c κs = leaf-room (c .before .before .before .before .before .before .before .before .before .before .before .before .pre .1) (c .before .before .before .before .before .before .before .before .plan-stage .ensures) (c .before .before .enum-told .given .1)
+stage-leaf-requires t c κs = leaf-room (c .before .before .before .before .before .before .before .before .before .before .before .before .before .pre .1) (c .before .before .before .before .before .before .before .before .plan-stage .ensures) (c .before .before .enum-told .given .1)
 
 stage-enum-told-2 : (t : ℕ) → stage-lts.Need-enum-told-2 (stage-claims t) (stage-at t) stage.Post
 stage-enum-told-2 t c = search needs
@@ -393,7 +401,7 @@ stage-tries-requires t c κs = search needs
 
 stage-divide-requires : (t : ℕ) → stage-lts.Need-divide-requires (stage-claims t) (stage-at t) stage.Post
 stage-divide-requires t c κs =
-    let b = c .before .before .before .before .before .before .before .before .before .before .before .before .before in
+    let b = c .before .before .before .before .before .before .before .before .before .before .before .before .before .before in
     let p = c .before .before .before .before .before .before .before .before .before .plan-stage .ensures in
     let q = c .tries .ensures ∙ still (b .pre .1) p in
     (let e = b .pre .0 in let f = divide-falls (b .pre .1) p q in omega arith, (divides (b .pre .1) p (c .before .before .before .enum-told2 .given .1) q, p .lowest))
@@ -403,18 +411,18 @@ stage-enum-known-choice t c = search needs
 
 stage-join-requires : (t : ℕ) → stage-lts.Need-join-requires (stage-claims t) (stage-at t) stage.Post
 stage-join-requires t c κs =
-    let b = c .before .before .before .before .before .before .before .before .before .before .before .before .before in
+    let b = c .before .before .before .before .before .before .before .before .before .before .before .before .before .before in
     let p = c .before .before .before .before .before .before .before .before .before .plan-stage .ensures in
-    (let e = b .pre .0 in let f = join-falls (b .pre .1) p in omega arith, (_, joins (b .pre .1) p (c .before .before .before .choice .given .1)))
+    (let e = b .pre .0 in let f = join-falls (b .pre .1) p in omega arith, ((_, joins (b .pre .1) p (c .before .before .before .choice .given .1)), refl))
 
 -- the network of the conditions left, whichever way it came
 stage-came : (t : ℕ) (c : stage-lts.At-match-came (stage-claims t) (stage-at t) stage.Post)
     → let d = c .before .before .before .before .before in
-    let a = d .before .before .before .before .args in
-    Written (d .plan-stage .result .places) (treeOf (settingsOf (a .how)) (a .m) (a .may) (frontStage (a .ks) (a .w .now))) 0 (a .want) (d .plan-stage .last .0) (a .network .now) (a .r) (c .match .of) (c .match .w) (c .match .network)
+    let a = d .before .before .before .before .before .args in
+    Written (d .plan-stage .result .places) (treeOf (settingsOf (a .how)) (a .m) (mayTake (a .begin)) (frontStage (a .ks) (a .w .now))) 0 (a .want) (d .plan-stage .last .0) (a .network .now) (a .r) (c .match .of) (c .match .w) (c .match .network)
 stage-came t c =
     let d = c .before .before .before .before .before in
-    let s = d .before .before .before .before .pre .1 in
+    let s = d .before .before .before .before .before .pre .1 in
     let o = d .plan-stage .ensures in
     let eight : length (d .plan-stage .result .places) ≡ 8 = search needs in
     ⊎-elim (λ p. written-here (p .7) (p .8) (p .9) (leaf-done s o (p .1 .given .1) eight (p .4 .ensures)))
@@ -425,10 +433,10 @@ stage-came t c =
     (c .match .came)
 
 stage-spread-if-requires : (t : ℕ) → stage-lts.Need-spread-if-requires (stage-claims t) (stage-at t) stage.Post
-stage-spread-if-requires t c κs = spread-room (c .before .before .before .before .before .before .before .before .before .before .pre .1) (c .before .before .before .before .before .before .plan-stage .ensures) (stage-came t (c .before) .len)
+stage-spread-if-requires t c κs = spread-room (c .before .before .before .before .before .before .before .before .before .before .before .pre .1) (c .before .before .before .before .before .before .plan-stage .ensures) (stage-came t (c .before) .len)
 
 stage-returns : (t : ℕ) → stage-lts.Need-returns (stage-claims t) (stage-at t) stage.Post
-stage-returns t c = whole (c .before .before .before .before .before .before .before .before .before .before .before .before .before .pre .1) (c .before .before .before .before .before .before .before .before .before .plan-stage .ensures) (stage-came t (c .before .before .before .before)) (c .before .before .spread-if .ensures)
+stage-returns t c = whole (c .before .before .before .before .before .before .before .before .before .before .before .before .before .before .pre .1) (c .before .before .before .before .before .before .before .before .before .plan-stage .ensures) (stage-came t (c .before .before .before .before)) (c .before .before .spread-if .ensures)
 
 stage-same-length : (t : ℕ) → stage-lts.Need-same-length (stage-claims t) (stage-at t) stage.Post
 stage-same-length t c = stage-returns t c .len
@@ -457,7 +465,7 @@ count-both-join-requires : (t : ℕ) → count-both-lts.Need-join-requires (coun
 count-both-join-requires t c κs =
     let b = c .before .before .before .before .before .before .before .before .before .before .before .before .before .before in
     let a = c .alone .ensures in
-    (let e = b .pre .0 in omega arith, (_, joins-alone (b .args .i) (a .0) (a .1) (weak-counts (b .pre .1 .0) (c .before .before .before .before .before .before .before .before .before .before .split .ensures) (c .before .before .before .before .before .«open» .ensures))))
+    (let e = b .pre .0 in omega arith, ((_, joins-alone (b .args .i) (a .0) (a .1) (weak-counts (b .pre .1 .0) (c .before .before .before .before .before .before .before .before .before .before .split .ensures) (c .before .before .before .before .before .«open» .ensures))), refl))
 
 count-both-returns : (t : ℕ) → count-both-lts.Need-returns (count-both-claims t) (count-both-at t) count-both.Post
 count-both-returns t c =
@@ -496,7 +504,7 @@ shorter-join-requires t c κs =
     let b = c .before .before .before .before .before .before .before .before .before .before .before .before .before .before .before .before in
     let a = c .alone .ensures in
     let j = weak-writes (b .pre .1 .0) (c .before .before .before .before .before .before .before .before .before .before .before .count-both2 .ensures) (b .args .r) (b .pre .1 .2) (c .before .before .before .before .before .before .before .if2 .taken) (c .before .before .before .before .before .reopen .ensures) in
-    (let e = b .pre .0 in omega arith, (_, joins-alone (b .args .i) (a .0) (a .1) j))
+    (let e = b .pre .0 in omega arith, ((_, joins-alone (b .args .i) (a .0) (a .1) j), refl))
 
 shorter-returns-2 : (t : ℕ) → shorter-lts.Need-returns-2 (shorter-claims t) (shorter-at t) shorter.Post
 shorter-returns-2 t c =
@@ -688,6 +696,7 @@ pub +count-both+divide+join+shorter+split+stage-spec : {M : Type 1} → statemen
     λ t. stage-lts.spec (stage-claims t)
     (stage-at t)
     stage.Post
+    (stage-masked-requires t)
     (stage-plan-stage-requires t)
     (stage-enum-told t)
     (stage-leaf-requires t)

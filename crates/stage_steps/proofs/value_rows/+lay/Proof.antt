@@ -1,17 +1,17 @@
--- `stage_steps::rows::lay` meets its contract. It ends because there is a table less each time.
+-- `stage_steps::value_rows::lay` meets its contract. It ends because there is a table less each time.
 use Prim.Native.Nat.{ℕ, _-_, _<_}
 use native.Mathlib.Omega.{arith}
 use borrow.Author.Needs.{needs}
 use Rattle.stage_steps.proofs.LayLaws.{lay-none, lay-before, low-bytes, low-cells, table-room, add-room, laid-limits, laid-masks}
 use borrow.Fn.Kinds.{In}
 use borrow.Fn.PlainCycle.{Measures, is, falls, and}
-use Rattle.stage_steps.proofs.rows.lay.Reads as lay
-use Rattle.stage_steps.proofs.rows.lay.Kinds as lay-kinds
-use Rattle.stage_steps.proofs.rows.+lay.Lts-lay as lay-lts
+use Rattle.stage_steps.proofs.value_rows.lay.Reads as lay
+use Rattle.stage_steps.proofs.value_rows.lay.Kinds as lay-kinds
+use Rattle.stage_steps.proofs.value_rows.+lay.Lts-lay as lay-lts
 use Rattle.masks.proofs.add.Reads as add-reads
 use Rattle.moves.proofs.cofactor_rows.Reads as cofactor-rows-reads
-use Rattle.stage_steps.proofs.rows.+lay.{statement}
-use Rattle.stage_steps.proofs.rows.+lay.Tie.{close}
+use Rattle.stage_steps.proofs.value_rows.+lay.{statement}
+use Rattle.stage_steps.proofs.value_rows.+lay.Tie.{close}
 
 abbrev μ-lay : Measures 1 lay-kinds.ps ℕ
 μ-lay κs a = a .1 .1 .1 .1 .1 .1 .1 .0

@@ -1,4 +1,4 @@
--- `stage_steps::rows::give` meets its contract. It ends because there are fewer rows each time.
+-- `stage_steps::value_rows::give` meets its contract. It ends because there are fewer rows each time.
 use Prim.Native.Nat.{ℕ, _-_, _<_}
 use mathlib.Core.Path.{refl}
 use native.Mathlib.Omega.{arith}
@@ -6,12 +6,12 @@ use borrow.Author.Needs.{needs}
 use Rattle.stage_steps.proofs.LayLaws.{row-room, row-low, row-given, half-room, rest-room, halves-given}
 use borrow.Fn.Kinds.{In}
 use borrow.Fn.PlainCycle.{Measures, is, falls, and}
-use Rattle.stage_steps.proofs.rows.give.Reads as give
-use Rattle.stage_steps.proofs.rows.give.Kinds as give-kinds
-use Rattle.stage_steps.proofs.rows.+give.Lts-give as give-lts
+use Rattle.stage_steps.proofs.value_rows.give.Reads as give
+use Rattle.stage_steps.proofs.value_rows.give.Kinds as give-kinds
+use Rattle.stage_steps.proofs.value_rows.+give.Lts-give as give-lts
 use Rattle.tables.proofs.fill.copy.Reads as copy-reads
-use Rattle.stage_steps.proofs.rows.+give.{statement}
-use Rattle.stage_steps.proofs.rows.+give.Tie.{close}
+use Rattle.stage_steps.proofs.value_rows.+give.{statement}
+use Rattle.stage_steps.proofs.value_rows.+give.Tie.{close}
 
 abbrev μ-give : Measures 1 give-kinds.ps ℕ
 μ-give κs a = a .1 .1 .1 .1 .1 .1 .0 - a .1 .1 .1 .1 .1 .0
