@@ -1,6 +1,8 @@
 // Compiling a table to its network, and telling beforehand what that network will have.
+#![tactic(auto)]
+
 ghost use Rattle.std.specs.Prelude.{◌*◌, ◌≤◌, ◌≡◌, length};
-ghost use Rattle.rules.specs.Settings.{usual, settingsOf};
+ghost use Rattle.rules.specs.Settings.{usual, settings_of};
 ghost use Rattle.rules.specs.CompileCall.{most_records, compile_room};
 ghost use Rattle.compile.specs.Compiling.{table_rows, judged_as, Accepted, Recorded, Compiles};
 ghost use Rattle.compile.specs.Forecasting.{Forecasts};
@@ -11,14 +13,14 @@ use stage_steps::gates::Extent;
 use stages::Begin;
 use tables::{fill, limits};
 
-#[derive(Drop)]
+#[derive(Clone, Copy)]
 pub enum CompileAnswer {
     // How many records were written.
     Records(usize),
     Refused(Refusal),
 }
 
-#[derive(Drop)]
+#[derive(Clone, Copy)]
 pub enum ForecastAnswer {
     // How many records the network has, and the depth of gates under the last one.
     Figures { records: usize, depth: usize },
@@ -26,7 +28,7 @@ pub enum ForecastAnswer {
 }
 
 // What the rows say of a table.
-#[derive(Drop)]
+#[derive(Clone, Copy)]
 enum Judged {
     Sound,
     Refused(Refusal),
@@ -161,7 +163,7 @@ fn build(
     network: &mut [u8],
 ) -> Extent
     requires { Accepted shape lower.now upper.now (length work.old) }
-    ensures { Recorded (settingsOf how) shape lower.now upper.now work.old network.old result work.new network.new }
+    ensures { Recorded (settings_of how) shape lower.now upper.now work.old network.old result work.new network.new }
 {
     let cells = shape.cells();
     let end = WORK * cells;

@@ -5,6 +5,8 @@
 // for each cell. Both buffers hold 99 everywhere before. Behind that, what a forecast of the same table
 // says, with the same work buffer and no network buffer. Last, tables under settings other than the usual, by their
 // byte.
+#![tactic(auto)]
+
 use compile::{CompileAnswer, ForecastAnswer};
 use printing::{number, refused, text};
 use shape::Shape;

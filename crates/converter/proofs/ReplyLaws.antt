@@ -1,25 +1,32 @@
 -- What a program writes, by the verdict on its file.
-use Prim.Native.Nat.{ℕ, ◌≤◌}
+use Prim.Native.Nat.{ℕ, ◌≤◌, ◌<◌}
 use mathlib.Core.Path.{◌≡◌, sym, ◌∙◌, ap, subst}
 use mathlib.Core.List.{List, []}
 use native.Mathlib.Nat.{le_refl}
 use native.Mathlib.Omega.{arith}
-use lib.ListN.{length}
+use lib.ListN.{length, take}
+use Rattle.std.proofs.Common.{None, Some, IfSome}
+use Rattle.std.specs.declared.option.Option.{Option}
+use Rattle.std.specs.Io.KnownBytes.{Appends}
+use Rattle.std.proofs.KnownBytes.{Appends-nil}
 use Rattle.io.specs.Counts.{IsPrefixLen}
 use Rattle.rules.specs.declared.Edition.{Edition}
 use Rattle.rules.specs.declared.Outcome.{Outcome}
 use Rattle.rules.specs.declared.Outcome.TheVariants as outcomes
 use Rattle.rules.specs.declared.Refusal as refusals
 use Rattle.rules.specs.Editions.{convert_call}
-use Rattle.rules.specs.Listing.{said, refusal_line}
+use Rattle.rules.specs.Listing.{Said, said, turned_from, refusal_line}
 use Rattle.laws.proofs.VerdictLaws.{was_written, was_refused}
 use Rattle.editions.specs.Converting.{Converts}
 use Rattle.editions.proofs.EditionLaws.{with_room}
 use Rattle.listing.specs.Putting.{Put}
+use Rattle.listing.proofs.LongLaws.{front_turned}
 use Rattle.listing.proofs.PutLaws.{put-fits, put-taken, put_front}
+use Rattle.streams.specs.declared.Input.TheVariants as inputs
+use Rattle.streams.specs.Filling.{Takes}
 use Rattle.converter.specs.declared.Reply.{Reply}
 use Rattle.converter.specs.declared.Reply.TheVariants.{File, Refusal}
-use Rattle.converter.specs.Replying.{taken, Replies}
+use Rattle.converter.specs.Replying.{taken, sent, Replies, Says}
 
 -- a known reply
 pub reply_counts : {e : Edition} {file : List ℕ} {r : Reply} {buffer : List ℕ} (s : Reply) → r ≡ s → Replies e file r buffer → IsPrefixLen (taken s) buffer
@@ -44,3 +51,33 @@ module _ {e : Edition} {file out : List ℕ} {r : Outcome} {out' : List ℕ} (c 
         counts = (put-fits p long, put-taken p long);
         says = ap (λ (x : List ℕ). record { output = []; error = x }) (put_front p long) ∙ sym (ap said (sym same-room ∙ was_refused (convert_call e file (length out)) (sym h ∙ c.answer)));
       }
+
+-- what is said of the file that a buffer was filled with is said of the whole input
+pub input_said : {e : Edition} (known : Option (List ℕ)) (n : ℕ) (buffer : List ℕ) {o o' r r' : Option (List ℕ)} → 16528 < length buffer
+    → Takes known (inputs.File n) buffer → Says e (take n buffer) o o' r r' → IfSome known (λ (file : List ℕ). Says e file o o' r r')
+input_said None n buffer long t s = tt
+input_said {e} (Some file) n buffer {o} {o'} {r} {r'} long t s =
+    let same : turned_from e (take n buffer) ≡ turned_from e file = ap (turned_from e) t ∙ front_turned (length buffer) file long e in
+    record {
+      written = subst (λ (x : Said). Appends o o' x.output) same s.written;
+      complained = subst (λ (x : Said). Appends r r' x.error) same s.complained;
+    }
+
+-- a reply that was written to its end
+pub file_said : {e : Edition} {file : List ℕ} {a : Reply} {n : ℕ} {buffer : List ℕ} {o o' r : Option (List ℕ)} → a ≡ File n → Replies e file a buffer
+    → Appends o o' (take n buffer) → Says e file o o' r r
+file_said {e} {file} {a} {n} {buffer} {o} {o'} {r} q p w =
+    let same = subst (λ (x : Reply). sent x buffer ≡ turned_from e file) q p.says in
+    record {
+      written = subst (λ (x : Said). Appends o o' x.output) same w;
+      complained = subst (λ (x : Said). Appends r r x.error) same (Appends-nil r);
+    }
+
+pub refusal_said : {e : Edition} {file : List ℕ} {a : Reply} {n : ℕ} {buffer : List ℕ} {o r r' : Option (List ℕ)} → a ≡ Refusal n → Replies e file a buffer
+    → Appends r r' (take n buffer) → Says e file o o r r'
+refusal_said {e} {file} {a} {n} {buffer} {o} {r} {r'} q p w =
+    let same = subst (λ (x : Reply). sent x buffer ≡ turned_from e file) q p.says in
+    record {
+      written = subst (λ (x : Said). Appends o o x.output) same (Appends-nil o);
+      complained = subst (λ (x : Said). Appends r r' x.error) same w;
+    }

@@ -1,5 +1,7 @@
 -- What a program that turns a file into the other edition writes.
 use Rattle.std.specs.Prelude.{ℕ, ◌≡◌, List, [], take}
+use Rattle.std.specs.declared.option.Option.{Option}
+use Rattle.std.specs.Io.KnownBytes.{Appends}
 use Rattle.io.specs.Counts.{IsPrefixLen}
 use Rattle.rules.specs.declared.Edition.{Edition}
 use Rattle.rules.specs.Listing.{Said, turned_from}
@@ -19,3 +21,8 @@ sent (Refusal n) buffer = record { output = []; error = take n buffer }
 pub record Replies (e : Edition) (file : List ℕ) (r : Reply) (buffer : List ℕ) : Type 0 where
   pub counts : IsPrefixLen (taken r) buffer
   pub says : sent r buffer ≡ turned_from e file
+
+-- standard output and standard error, where what they hold is known, grow by what the rules say
+pub record Says (e : Edition) (file : List ℕ) (output output' error error' : Option (List ℕ)) : Type 0 where
+  pub written : Appends output output' (turned_from e file).output
+  pub complained : Appends error error' (turned_from e file).error

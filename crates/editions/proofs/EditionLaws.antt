@@ -258,7 +258,7 @@ module _ (e : Edition) (file : List ℕ) (bytes : (j : ℕ) → at file j < 256)
               with_room (other e) out room (omega (arith, as_long))
               ∙ ap (λ (v : Verdict Seen). and_then v (λ t. accepted (file_as_other (other e) out))) accepts
               ∙ ap accepted comes_back;
-          cell_kind_lem = λ k h y. ap (λ (x : List ℕ). at x 0) (at_out k h ∙ other-cell e (record_at file k) y) ∙ kind_turned e (record_at file k);
+          cell_stays = λ k h y. ap (λ (x : List ℕ). at x 0) (at_out k h ∙ other-cell e (record_at file k) y) ∙ kind_turned e (record_at file k);
           grades = λ k g h y. ap (λ (x : List ℕ). allows (other e) x g) (at_out k h ∙ other-cell e (record_at file k) y) ∙ (turned-at k h y).grades g;
           values = λ k j h l. ap (λ (x : List ℕ). at x j) (at_out k h) ∙ values-at k j h l;
           others = λ k h n. at_out k h ∙ other_plain e (record_at file k) n;

@@ -1,5 +1,7 @@
 // Request 6: a table file of ours turned into one of the spreadsheet's edition, and back. The file
 // is judged whole before a byte of the output is written.
+#![tactic(auto)]
+
 ghost use Rattle.std.specs.Prelude.{◌*◌, ◌≤◌, ◌≡◌, ◌++◌, length, drop};
 ghost use Rattle.rules.specs.declared.Edition.TheVariants.{Ours, Spreadsheet};
 ghost use Rattle.rules.specs.Bytes.{at, map_records};

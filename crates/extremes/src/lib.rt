@@ -5,6 +5,8 @@
 // The walk goes down the places. At a member of the set the rows of a table, one for each of its values, become
 // one, which is walked on and then repeated: so each grade is read once, and each answer written once but in that
 // row, which has what its classes have come to so far, however many members there are.
+#![tactic(auto)]
+
 ghost use Rattle.std.specs.Prelude.{◌/◌, ◌<◌, ◌≤◌, ◌≡◌};
 ghost use Rattle.rules.specs.Cell.{cells, singleton, over};
 ghost use Rattle.tables.specs.Line.{best};
@@ -48,7 +50,7 @@ fn row_of(size: usize, card: usize) -> usize
 
 // What the walk needs at every place: which extreme, the places, the set, its lowest member, and how many low places
 // have no condition but members.
-#[derive(Drop)]
+#[derive(Clone, Copy)]
 struct Walk {
     greatest: bool,
     places: [u8; PLACES],

@@ -1,4 +1,6 @@
 // Sets of grades: bit g of sixteen says whether grade g is a member.
+#![tactic(auto)]
+
 ghost use Rattle.std.specs.Prelude.{◌≤◌, ◌<◌, ◌≡◌};
 ghost use Rattle.rules.specs.GradeSet.{span, least_grade, greatest_grade, set_sound};
 

@@ -1,13 +1,16 @@
 -- What reading and compiling answer, as it is printed.
-use Prim.Native.Nat.{ℕ, ◌+◌, ◌*◌, ◌/◌, ◌≤◌}
-use mathlib.Core.Path.{◌≡◌, refl, sym, ◌∙◌, ap, ap₂}
+use Prim.Native.Nat.{◌<◌, ℕ, ◌*◌, ◌/◌, ◌≤◌}
+use mathlib.Core.Path.{◌≡◌, refl, sym, ◌∙◌, ap, ap₂, subst}
 use mathlib.Core.Bool.{Bool, ◌&&◌}
 use mathlib.Core.List.{List, ◌++◌}
 use native.Mathlib.Nat.{mul-div_right}
 use native.Mathlib.Omega.{arith}
 use borrow.Author.Tests.{le-leb}
 use lib.Dec.{leb, eqb}
-use lib.ListN.{length, drop}
+use lib.ListN.{length, drop, take}
+use Rattle.std.proofs.Common.{None, Some, IfSome}
+use Rattle.std.specs.declared.option.Option.{Option}
+use Rattle.std.specs.Io.KnownBytes.{Appends}
 use Rattle.rules.specs.declared.Edition.TheVariants.{Ours}
 use Rattle.rules.specs.declared.Refusal.{Refusal}
 use Rattle.rules.specs.declared.Refusal.TheVariants.{ShortBuffer}
@@ -40,6 +43,11 @@ use Rattle.compile.specs.declared.CompileAnswer.TheVariants.{Records, Refused}
 use Rattle.compile.specs.Compiling.{compile_answer, network_after, compile_rows, Compiles}
 use Rattle.compile.proofs.CountLaws as count
 use Rattle.compile.proofs.CountLaws.{was_accepted, accepted-records}
+use Rattle.listing.specs.Putting.{Put}
+use Rattle.listing.proofs.PutLaws.{put_front}
+use Rattle.listing.proofs.LongLaws.{front_answered}
+use Rattle.streams.specs.declared.Input.TheVariants.{File}
+use Rattle.streams.specs.Filling.{Takes}
 use Rattle.grades.specs.Answering.{table_rows}
 
 -- a compile's answer
@@ -114,3 +122,11 @@ module _ {file lower upper : List ℕ} {a : TableAnswer} {lower' upper' : List �
   file_listed shape g =
       let was = was_table (judge_file Ours file) (sym g ∙ r.answer ∙ ap read_answer verdict) in
       ap (λ (x : Shape). printed (table_rows x lower' upper')) was.2 ∙ ap printed (table-rows was.0 was.1) ∙ sym (ap (λ (v : Verdict Seen). printed (after v)) was.1)
+
+-- what was laid for the file that a buffer was filled with, once it is written, is what is printed for the whole input
+pub input_answered : (known : Option (List ℕ)) (n : ℕ) (buffer : List ℕ) {w : List ℕ} {m b : ℕ} {out : List ℕ} (o o' : Option (List ℕ)) → 16528 < length buffer
+    → Takes known (File n) buffer → Put w 0 (answer_to (take n buffer)) m b out → m ≤ length out → Appends o o' (take b out)
+    → IfSome known (λ (file : List ℕ). Appends o o' (answer_to file))
+input_answered None n buffer o o' long t p room a = tt
+input_answered (Some file) n buffer o o' long t p room a =
+    subst (λ (x : List ℕ). Appends o o' x) (put_front p room ∙ ap answer_to t ∙ front_answered (length buffer) file long) a

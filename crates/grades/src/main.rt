@@ -1,13 +1,17 @@
 // Reads a table file on standard input and prints the network that it compiles to.
-ghost use Rattle.std.specs.Prelude.{◌≤◌, length};
+#![tactic(auto)]
+
+ghost use Rattle.std.specs.Prelude.{◌≡◌, ◌≤◌, length, OnOk, IfSome, Err};
+ghost use Rattle.std.specs.Io.KnownBytes.{Appends, Keeps};
 ghost use Rattle.rules.specs.Listing.{printed, answer_to};
 ghost use Rattle.listing.specs.Putting.{Put};
 ghost use Rattle.grades.specs.Answering.{table_rows};
+ghost use Rattle.grades.specs.declared.Failure.{Failure};
 
 use compile::CompileAnswer;
-use libc::STDOUT_FILENO;
 use listing::{put_listing, put_refusal};
 use shape::Shape;
+use std::io::{Read, Write};
 use streams::{INPUT, Input};
 use table_file::TableAnswer;
 
@@ -45,16 +49,46 @@ fn answer(out: &mut [u8], file: &[u8]) -> usize
     }
 }
 
-fn main() {
+// What kept the program from answering.
+#[derive(Clone, Copy)]
+enum Failure {
+    // Standard input was not read to its end.
+    Unread,
+    // The listing was not written to its end.
+    Unwritten,
+}
+
+// The whole program but its complaints.
+fn run<R: Read, W: Write>(stdin: &mut R, stdout: &mut W) -> Result<(), Failure>
+    ensures printed { OnOk result (IfSome (R.remaining stdin.old) (λ file. Appends (W.contents stdout.old) (W.contents stdout.new) (answer_to file))) }
+
+    // Half a table file can be a table, so nothing is printed for it.
+    ensures unread { result ≡ Err Failure.Unread → Keeps (W.contents stdout.old) (W.contents stdout.new) }
+{
     let mut file = [0u8; INPUT];
     let mut out = [0u8; LISTING];
-    match streams::read_file(&mut file) {
-        Input::Unread => streams::complain(b"grades: standard input was not read to its end\n"),
+    match streams::read_file(stdin, &mut file) {
+        Input::Unread => Err(Failure::Unread),
         Input::File(len) => {
             let n = answer(&mut out, &file[..len]);
-            if !io::write_all(STDOUT_FILENO, &out[..n]) {
-                streams::complain(b"grades: the listing was not written to its end\n");
+            match stdout.write_all(&out[..n]) {
+                Ok(()) => Ok(()),
+                Err(_) => Err(Failure::Unwritten),
             }
         }
+    }
+}
+
+fn main(rt: HostRuntime) {
+    match run(&mut rt.stdin(), &mut rt.stdout()) {
+        Ok(()) => {}
+        Err(Failure::Unread) => streams::complain(
+            &mut rt.stderr(),
+            b"grades: standard input was not read to its end\n",
+        ),
+        Err(Failure::Unwritten) => streams::complain(
+            &mut rt.stderr(),
+            b"grades: the listing was not written to its end\n",
+        ),
     }
 }

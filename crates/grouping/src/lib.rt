@@ -1,5 +1,7 @@
 // From the first pair that joins under the limits of a stage to the sets of a max join. The tables are parts of one
 // buffer. For a min join the caller lends the limits exchanged.
+#![tactic(auto)]
+
 pub mod growing;
 pub mod joins;
 
@@ -13,7 +15,7 @@ ghost use Rattle.grouping.specs.Growing.{Space, First, Grouped};
 use rules::{Gate, PLACES};
 
 // The sets of a join.
-#[derive(Drop)]
+#[derive(Clone, Copy)]
 pub struct Sets {
     pub s: u8,
     pub t: u8,

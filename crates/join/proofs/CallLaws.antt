@@ -1,6 +1,6 @@
 -- A call that rows 4, 10, 5 and 7 let pass.
 use Prim.Native.Nat.{ℕ, ◌≤◌}
-use mathlib.Core.Path.{◌≡◌, sym, ◌∙◌, ap}
+use mathlib.Core.Path.{◌≡◌, sym, ◌∙◌, ap, subst}
 use mathlib.Core.Bool.{Bool}
 use mathlib.Core.List.{List, [], ◌∷◌}
 use native.Mathlib.Omega.{arith}
@@ -45,7 +45,7 @@ module _ {shape : Shape} {lower upper : List ℕ} {s t : ℕ} {others ks : List 
   size = call.count ∙ ap cells call.places
 
   pub fits : Fit n (length lower ∷ length upper ∷ others)
-  fits = rw size (fit (cells (places_of shape)) (length lower ∷ length upper ∷ others) call.offered.room)
+  fits = subst (λ (k : ℕ). Fit k (length lower ∷ length upper ∷ others)) (sym size) (fit (cells (places_of shape)) (length lower ∷ length upper ∷ others) call.offered.room)
 
   pub opening : {w : List ℕ} → 6144 ≤ length w → Opening ks shape.m n lower upper w
   opening room =

@@ -1,4 +1,6 @@
 // The two join calls: the limits of the first block, and those of the second once the first is given.
+#![tactic(auto)]
+
 ghost use Rattle.std.specs.Prelude.{◌*◌, ◌≤◌, min, ◌≡◌, length};
 ghost use Rattle.rules.specs.Limits.{limits_of};
 ghost use Rattle.join.specs.Calls.{JoinFirst, JoinSecond};

@@ -1,5 +1,7 @@
 // Runs the two join calls on document 01's tables E and F and on an input for each refusal that a
 // join can meet, and prints what it got: the answer, and both output buffers whole.
+#![tactic(auto)]
+
 use rules::{Gate, Outcome};
 use shape::Shape;
 

@@ -1,5 +1,7 @@
 // Joins on parts of one work buffer. Every part has n bytes, one for each cell of the places ks.
 // A join of either gate is made as a max join: `open_limits` turns the limits before, `exchange` after.
+#![tactic(auto)]
+
 ghost use Rattle.std.specs.Prelude.{ℕ, ◌+◌, ◌*◌, ◌≤◌, ◌≡◌, List, length};
 ghost use Rattle.rules.specs.Bytes.{at, tabulate};
 ghost use Rattle.rules.specs.Cell.{cells, over, greatest_over, least_over};

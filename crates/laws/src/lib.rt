@@ -1,1 +1,3 @@
+#![tactic(auto)]
+
 // Laws about the rules: no code.

@@ -1,12 +1,14 @@
 // The lines of a table, the cells that differ in one condition only: a walk over all cells that knows each
 // one's line with no division, and a grade against those along a line, with no more of them read than decide.
+#![tactic(auto)]
+
 ghost use Rattle.std.specs.Prelude.{◌+◌, ◌*◌, ◌≤◌, ◌≡◌, false, not, leb};
 ghost use Rattle.tables.specs.Line.{line_best, Line};
 ghost use Rattle.lines.specs.Along.{LineOn, least_on, first, Next};
 
 // A cell on its line: the step and the cardinality of the line's condition, how far before the cell the
 // line's first one lies, and how many cells on the condition has its next value.
-#[derive(Drop)]
+#[derive(Clone, Copy)]
 pub struct Along {
     pub step: usize,
     pub card: usize,

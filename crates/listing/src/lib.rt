@@ -1,5 +1,7 @@
 // What the program "grades" prints, laid into a lent buffer. Each function writes from `start` on and
 // gives the place after its last byte.
+#![tactic(auto)]
+
 ghost use Rattle.std.specs.Prelude.{◌+◌, ◌*◌, ◌≤◌, ◌<◌, ◌≡◌, true, ◌++◌, length};
 ghost use Rattle.rules.specs.Bytes.{at, word, tabulate};
 ghost use Rattle.rules.specs.Cell.{card};

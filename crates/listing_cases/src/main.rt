@@ -1,12 +1,16 @@
 // Prints, by the functions that `grades` uses, a line of each kind of record, record numbers on both
 // sides of a byte's limit, a whole listing, and each refusal.
+#![tactic(auto)]
+
 ghost use Rattle.std.specs.Prelude.{◌<◌, ◌≡◌, true};
 ghost use Rattle.shape.specs.Shapes.{is_sound};
 
-use libc::STDOUT_FILENO;
 use listing::{put_listing, put_record, put_refusal};
 use rules::Refusal;
 use shape::Shape;
+
+// Standard output's number.
+const STDOUT: i32 = 1;
 
 // Conditions of eight, eight, eight and two values, and sixteen grades.
 fn wide() -> Shape
@@ -31,13 +35,13 @@ fn show_record(r: usize, bytes: &[u8; 16])
 {
     let mut out = [0u8; 62];
     let n = put_record(&mut out, 0, r, bytes, wide());
-    io::write_all(STDOUT_FILENO, &out[..n]);
+    io::write_all(STDOUT, &out[..n]);
 }
 
 fn show_refusal(refusal: Refusal) {
     let mut out = [0u8; 14];
     let n = put_refusal(&mut out, refusal);
-    io::write_all(STDOUT_FILENO, &out[..n]);
+    io::write_all(STDOUT, &out[..n]);
 }
 
 // The constant 15, the literal 10 9 of condition 3, and the greater of the two.
@@ -55,7 +59,7 @@ fn show_listing() {
     network[38] = 1;
     let mut out = [0u8; 200];
     let n = put_listing(&mut out, &network, 3, wide());
-    io::write_all(STDOUT_FILENO, &out[..n]);
+    io::write_all(STDOUT, &out[..n]);
 }
 
 fn show_refusals() {

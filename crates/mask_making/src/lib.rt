@@ -1,5 +1,7 @@
 // Masks made from a stage's limits. In parts of n bytes, one for each cell, the limits are 0 and 1, the masks for max 2,
 // those for min 3; part 4 is lost.
+#![tactic(auto)]
+
 ghost use Rattle.std.specs.Prelude.{◌+◌, ◌*◌, ◌/◌, ◌≤◌, ◌<◌, ◌≡◌, ltb};
 ghost use Rattle.rules.specs.Bytes.{pick, tabulate};
 ghost use Rattle.rules.specs.Cell.{cells, card, singleton, over};

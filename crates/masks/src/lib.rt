@@ -1,6 +1,8 @@
 // Masks: a byte for each cell, whose bit i says that the cell refuses condition i. For max its lower grade is above
 // the least upper grade over the condition, for min its upper grade is below the greatest lower grade over it.
 // Whether conditions drop or join is read off the masks, and those of a stage serve the stages that a split starts.
+#![tactic(auto)]
+
 pub mod tests;
 
 ghost use Rattle.std.specs.Prelude.{◌+◌, ◌≤◌, ◌<◌, ◌≡◌, length};
@@ -14,7 +16,7 @@ use places::sets;
 use rules::PLACES;
 
 // The first two conditions that join.
-#[derive(Drop)]
+#[derive(Clone, Copy)]
 pub enum Pair {
     Nothing,
     Found(usize, usize),

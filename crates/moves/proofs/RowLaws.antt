@@ -5,7 +5,6 @@ use mathlib.Core.List.{List}
 use mathlib.Core.Logic.{⊎_elim, inl, inr}
 use native.Mathlib.Nat.{mul-zero, mod-lt, mod-one, div-one, mul_comm, mul_assoc, mul-add, mul-suc, mul-le-mul_left, mul-le-mul_right, mul-div_cancel_left, mod-add-div}
 use native.Mathlib.Omega.{arith}
-use lib.ListN.{length}
 use Rattle.rules.specs.Bytes.{at, tabulate}
 use Rattle.laws.proofs.TestLaws.{by_order}
 use Rattle.laws.proofs.TableLaws.{tabulate-same}

@@ -1,4 +1,6 @@
 // Tables moved to other places, and the cells where a condition has one value.
+#![tactic(auto)]
+
 ghost use Rattle.std.specs.Prelude.{◌+◌, ◌*◌, ◌≤◌, ◌<◌, ◌≡◌, true, false, ◌++◌};
 ghost use Rattle.rules.specs.Bytes.{pick, at, tabulate};
 ghost use Rattle.rules.specs.Cell.{cells, step, moved};
@@ -12,7 +14,7 @@ use tables::fill;
 
 // A table over the places b is made from one over a in runs. A run is the cells that differ in the lowest places
 // only: how many places those are, the cells that they have in b, and those that they have in a.
-#[derive(Drop)]
+#[derive(Clone, Copy)]
 struct Run {
     places: usize,
     cells: usize,

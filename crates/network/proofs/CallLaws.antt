@@ -1,6 +1,6 @@
 -- The calls' answers, row by row.
 use Prim.Native.Nat.{ℕ, ◌/◌, ◌≤◌}
-use mathlib.Core.Path.{◌≡◌, refl, ap₂}
+use mathlib.Core.Path.{◌≡◌, refl, sym, ◌∙◌, ap, ap₂}
 use mathlib.Core.Bool.{Bool, true, ◌&&◌}
 use mathlib.Core.List.{List, [], ◌∷◌, map}
 use lib.Dec.{T, leb, ltb, leb→le}
@@ -30,6 +30,10 @@ module _ (shape : Shape) (net : List ℕ) where
 
   abbrev pub network_test : Bool
   network_test = network_sound (places_of shape) shape.m net
+
+  -- what a scan of the network with the shape's places answers is that test
+  pub network_tested : {ks : List ℕ} {r b : Bool} → ks ≡ places_of shape → r ≡ network_sound ks shape.m net → r ≡ b → network_test ≡ b
+  network_tested p s e = ap (λ (ks : List ℕ). network_sound ks shape.m net) (sym p) ∙ sym s ∙ e
 
   pub evaluate_by : (cell : ℕ) (work : List ℕ) (a b d e : Bool) → is_sound shape ≡ a → room_test work ≡ b → network_test ≡ d → ltb cell (cells (places_of shape)) ≡ e
       → evaluate_call shape.n (cards_of shape) shape.m net (length work) cell

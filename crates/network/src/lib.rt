@@ -1,5 +1,7 @@
 // Networks: whether one is sound, its grade at a cell and at each cell of a list, and whether it
 // keeps within limits.
+#![tactic(auto)]
+
 ghost use Rattle.std.specs.Prelude.{◌≡◌, ◌&&◌, [], ◌∷◌, leb};
 ghost use Rattle.rules.specs.Verdict.{roomy};
 ghost use Rattle.network.specs.Evaluating.{Evaluated};
@@ -9,13 +11,13 @@ ghost use Rattle.network.specs.Checking.{Checked, Checkable, Searched};
 use rules::{Outcome, RECORD, Refusal};
 use shape::Shape;
 
-#[derive(Drop)]
+#[derive(Clone, Copy)]
 pub enum Evaluation {
     Grade(u8),
     Refused(Refusal),
 }
 
-#[derive(Drop)]
+#[derive(Clone, Copy)]
 pub enum CheckAnswer {
     Within,
     // The first cell outside, and its grade there.

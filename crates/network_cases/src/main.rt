@@ -2,13 +2,15 @@
 // prints what it got: the grade, the refusal's number or what the check found; then the bytes of
 // the work buffer that the call had to leave: all of them after a refusal, else those past the
 // records. The buffer holds 99 everywhere before.
+#![tactic(auto)]
+
 use network::{CheckAnswer, Evaluation};
 use shape::Shape;
 
 mod visits;
 
 // A network of at most sixteen records.
-#[derive(Drop)]
+#[derive(Clone, Copy)]
 struct Records {
     bytes: [u8; 256],
     len: usize,
@@ -107,7 +109,7 @@ impl Records {
 }
 
 // The limits of at most six cells, and how many bytes of each are lent.
-#[derive(Drop)]
+#[derive(Clone, Copy)]
 struct Limits {
     lower: [u8; 6],
     upper: [u8; 6],

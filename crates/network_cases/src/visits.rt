@@ -45,7 +45,7 @@ fn visit_into(
 }
 
 // How many of five numbers are lent, and bytes for their grades and for the work.
-#[derive(Drop)]
+#[derive(Clone, Copy)]
 struct Lengths {
     numbers: usize,
     grades: usize,

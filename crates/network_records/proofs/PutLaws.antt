@@ -1,10 +1,10 @@
 -- Records written one behind the other.
 use Prim.Native.Nat.{ℕ, ◌+◌, ◌-◌, ◌*◌, ◌/◌, ◌%◌, ◌≤◌, ◌<◌}
 use mathlib.Core.Path.{◌≡◌, refl, sym, ◌∙◌, ap, ap₂, subst}
-use mathlib.Core.Bool.{Bool, true, false, not}
+use mathlib.Core.Bool.{Bool, true, false}
 use mathlib.Core.List.{List, [], ◌∷◌, ◌++◌, append-nil}
 use native.Mathlib.Omega.{arith}
-use borrow.Author.Tests.{leb-true, leb-false, not-true, not-false}
+use borrow.Author.Tests.{leb-true, leb-false}
 use lib.Dec.{leb}
 use lib.ListN.{length, replicate, length-append}
 use lib.Seq.{ext_get_or}
@@ -29,11 +29,11 @@ put-nowhere x h = record { len = refl; bytes = λ room. absurd (omega arith) }
 
 -- what the test for room shows
 module _ (net : List ℕ) (r : ℕ) {q : Bool} (e : q ≡ leb (16 * r + 16) (length net)) where
-  pub no_room : not q ≡ true → length net < 16 * r + 16
-  no_room h = leb-false (16 * r + 16) (length net) (sym e ∙ not-true q h)
+  pub no_room : q ≡ false → length net < 16 * r + 16
+  no_room h = leb-false (16 * r + 16) (length net) (sym e ∙ h)
 
-  pub has_room : not q ≡ false → 16 * r + 16 ≤ length net
-  has_room h = leb-true (16 * r + 16) (length net) (sym e ∙ not-false q h)
+  pub has_room : q ≡ true → 16 * r + 16 ≤ length net
+  has_room h = leb-true (16 * r + 16) (length net) (sym e ∙ h)
 
 -- the ceiling of a gate over two records before it, and the gate's bytes
 module _ (by : Gate) (net : List ℕ) (r left right : ℕ) (h : left < r) (g : right < r) where

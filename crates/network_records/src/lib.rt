@@ -1,5 +1,7 @@
 // The records of a network, each written whole: record r at byte 16 × r, where the buffer has room for it,
 // with its ceiling in byte 2.
+#![tactic(auto)]
+
 ghost use Rattle.std.specs.Prelude.{◌+◌, ◌*◌, ◌≤◌, ◌<◌, ◌≡◌, [], ◌∷◌, eqb, leb, length};
 ghost use Rattle.rules.specs.Bytes.{at, pick, tabulate};
 ghost use Rattle.rules.specs.Network.{constant, literal, gate, record_bytes, kind_of};

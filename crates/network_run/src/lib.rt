@@ -1,4 +1,6 @@
 // The grades of a sound network's records at a cell.
+#![tactic(auto)]
+
 ghost use Rattle.std.specs.Prelude.{◌≡◌, ℕ};
 ghost use Rattle.rules.specs.Bytes.{at};
 ghost use Rattle.rules.specs.Cell.{Positive, value};

@@ -1,4 +1,6 @@
 // Which networks are sound.
+#![tactic(auto)]
+
 ghost use Rattle.std.specs.Prelude.{◌≡◌, ◌&&◌, ◌||◌, ◌+◌, ◌*◌, ◌<◌, ◌≤◌, max, eqb, ltb, length};
 ghost use Rattle.rules.specs.Bytes.{pick, at, all, word, greatest};
 ghost use Rattle.rules.specs.Network.{combine, record_of, record_ceiling, record_formed, ceiling_at, record_sound, network_sound};

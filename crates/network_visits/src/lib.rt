@@ -1,4 +1,6 @@
 // The grades of a sound network at each cell of a list.
+#![tactic(auto)]
+
 ghost use Rattle.network_visits.specs.Visiting.{Visitable, Visited, ListReady, VisitedEach};
 
 use rules::NO_CELL;

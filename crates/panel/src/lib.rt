@@ -1,5 +1,7 @@
 // What C programs call. Each shape that is lent is ten bytes: the number of conditions, the eight
 // cardinalities, the number of grades.
+#![tactic(auto)]
+
 ghost use Rattle.rules.specs.declared.Edition.TheVariants.{Ours, Spreadsheet};
 ghost use Rattle.rules.specs.declared.Gate.TheVariants.{Min, Max};
 ghost use Rattle.panel_networks.specs.Evaluates.{Evaluates};
@@ -8,7 +10,7 @@ ghost use Rattle.panel_reads.specs.Reads.{Reads};
 ghost use Rattle.panel_editions.specs.Converts.{Converts};
 ghost use Rattle.panel_joins.specs.Joins.{JoinsFirst, JoinsSecond};
 ghost use Rattle.rules.specs.Settings.{usual};
-ghost use Rattle.rules.specs.Settings.{settingsOf};
+ghost use Rattle.rules.specs.Settings.{settings_of};
 ghost use Rattle.panel_networks.specs.Compiles.{Compiles};
 ghost use Rattle.panel_networks.specs.Forecasts.{Forecasts};
 ghost use Rattle.panel_networks.specs.Checks.{Checks};
@@ -179,7 +181,7 @@ pub extern "C" fn grades_compile_with(
     work: &mut [u8],
     network: &mut [u8],
 ) -> u32
-    ensures { Compiles (settingsOf settings) shape.now lower.now upper.now work.old network.old result work.new network.new }
+    ensures { Compiles (settings_of settings) shape.now lower.now upper.now work.old network.old result work.new network.new }
 {
     panel_networks::compile_with(shape, lower, upper, settings, work, network)
 }
@@ -209,7 +211,7 @@ pub extern "C" fn grades_forecast_with(
     work: &mut [u8],
     depth: &mut [u8],
 ) -> u32
-    ensures { Forecasts (settingsOf settings) shape.now lower.now upper.now work.old depth.old result work.new depth.new }
+    ensures { Forecasts (settings_of settings) shape.now lower.now upper.now work.old depth.old result work.new depth.new }
 {
     panel_networks::forecast_with(shape, lower, upper, settings, work, depth)
 }

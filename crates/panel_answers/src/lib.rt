@@ -1,4 +1,6 @@
 // The numbers by which C gets the answers of the calls.
+#![tactic(auto)]
+
 ghost use Rattle.std.specs.Prelude.{◌+◌, ◌≡◌};
 ghost use Rattle.rules.specs.Refusal.{refusal_number};
 ghost use Rattle.panel_answers.specs.Answers.{outcome_number, compile_number, check_number, FewRecords, FewCells, Answered};

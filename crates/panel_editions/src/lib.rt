@@ -1,4 +1,6 @@
 // Turning a table file into the other edition, for C.
+#![tactic(auto)]
+
 ghost use Rattle.panel_editions.specs.Converts.{Converts};
 
 use rules::Edition;

@@ -1,4 +1,6 @@
 // The join calls, by either gate.
+#![tactic(auto)]
+
 ghost use Rattle.panel_joins.specs.Joins.{JoinsFirst, JoinsSecond};
 
 use rules::Gate;

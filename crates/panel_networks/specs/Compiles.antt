@@ -1,5 +1,5 @@
 -- What `grades_compile_with` promises, and `grades_compile` of the usual settings.
-use Rattle.std.specs.Prelude.{ℕ, ◌≤◌, ◌<◌, ◌*◌, ◌≡◌, List, length}
+use Rattle.std.specs.Prelude.{ℕ, ◌≤◌, ◌<◌, ◌≡◌, List, length}
 use Rattle.rules.specs.declared.Settings.{Settings}
 use Rattle.rules.specs.Verdict.{Verdict}
 use Rattle.rules.specs.Network.{Record}

@@ -1,7 +1,9 @@
 // Compiling, forecasting, checking and evaluating, one cell or a list of them, for C: the shape is lent as ten bytes,
 // and answers are numbers.
+#![tactic(auto)]
+
 ghost use Rattle.std.specs.Prelude.{◌≤◌, ◌<◌, ◌≡◌, length};
-ghost use Rattle.rules.specs.Settings.{usual, settingsOf};
+ghost use Rattle.rules.specs.Settings.{usual, settings_of};
 ghost use Rattle.panel_networks.specs.Compiles.{Compiles};
 ghost use Rattle.panel_networks.specs.Forecasts.{with_word, Forecasts};
 ghost use Rattle.panel_networks.specs.Checks.{Checks};
@@ -54,7 +56,7 @@ pub fn compile_with(
     work: &mut [u8],
     network: &mut [u8],
 ) -> u32
-    ensures { Compiles (settingsOf settings) shape.now lower.now upper.now work.old network.old result work.new network.new }
+    ensures { Compiles (settings_of settings) shape.now lower.now upper.now work.old network.old result work.new network.new }
 {
     match Shape::from_bytes(shape) {
         ShapeAnswer::Refused(refusal) => panel_answers::of_refusal(refusal),
@@ -97,7 +99,7 @@ pub fn forecast_with(
     work: &mut [u8],
     depth: &mut [u8],
 ) -> u32
-    ensures { Forecasts (settingsOf settings) shape.now lower.now upper.now work.old depth.old result work.new depth.new }
+    ensures { Forecasts (settings_of settings) shape.now lower.now upper.now work.old depth.old result work.new depth.new }
 {
     match Shape::from_bytes(shape) {
         ShapeAnswer::Refused(refusal) => panel_answers::of_refusal(refusal),

@@ -1,4 +1,6 @@
 // Reading for C: a table file to the ten bytes of its shape and its limits.
+#![tactic(auto)]
+
 ghost use Rattle.std.specs.Prelude.{◌≤◌, ◌≡◌, ◌++◌, length, drop};
 ghost use Rattle.shape.specs.Shapes.{shape_bytes};
 ghost use Rattle.panel_answers.specs.Answers.{call_number};

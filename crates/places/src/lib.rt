@@ -1,5 +1,7 @@
 // The eight places of a shape, and sets of conditions. A place holds the cardinality of its
 // condition, 1 where there is none.
+#![tactic(auto)]
+
 pub mod members;
 pub mod sets;
 

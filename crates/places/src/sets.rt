@@ -62,7 +62,7 @@ pub fn without_one(ks: [u8; PLACES], i: usize) -> [u8; PLACES]
 }
 
 // A condition's number, and how many values it has.
-#[derive(Drop)]
+#[derive(Clone, Copy)]
 pub struct Condition {
     pub number: usize,
     pub values: usize,

@@ -1,13 +1,17 @@
 // What programs print: text, numbers, refusals and limits, on standard output.
-use libc::STDOUT_FILENO;
+#![tactic(auto)]
+
 use rules::Refusal;
 
+// Standard output's number.
+const STDOUT: i32 = 1;
+
 pub fn text(s: &[u8]) {
-    io::write_all(STDOUT_FILENO, s);
+    io::write_all(STDOUT, s);
 }
 
 pub fn number(x: usize) {
-    io::print_decimal(STDOUT_FILENO, x as u64);
+    io::print_decimal(STDOUT, x as u64);
 }
 
 pub fn refused(refusal: Refusal) {

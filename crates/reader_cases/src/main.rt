@@ -1,10 +1,12 @@
 // Reads a table file for each refusal that a file can meet, and document 01's small tables, and
 // prints what it got: the refusal's number, or the shape and the limits of each cell.
+#![tactic(auto)]
+
 use shape::Shape;
 use table_file::TableAnswer;
 
 // A file of at most sixteen records.
-#[derive(Drop)]
+#[derive(Clone, Copy)]
 struct File {
     bytes: [u8; 256],
     len: usize,

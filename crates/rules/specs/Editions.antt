@@ -45,7 +45,7 @@ pub record Converted (e : Edition) (file turned : List ℕ) : Type 0 where
   -- the other direction, given room, makes it the file again
   pub back : (room : ℕ) → length file ≤ room → convert_call (other e) turned room ≡ accepted file
   -- a cell record stays one, in the other edition, and allows exactly the grades that it did
-  pub cell_kind_lem : (k : ℕ) → k < length file / 16 → at (record_at file k) 0 ≡ cell_kind e → at (record_at turned k) 0 ≡ cell_kind (other e)
+  pub cell_stays : (k : ℕ) → k < length file / 16 → at (record_at file k) 0 ≡ cell_kind e → at (record_at turned k) 0 ≡ cell_kind (other e)
   pub grades : (k g : ℕ) → k < length file / 16 → at (record_at file k) 0 ≡ cell_kind e → allows (other e) (record_at turned k) g ≡ allows e (record_at file k) g
   -- all values stay, and every other record
   pub values : (k j : ℕ) → k < length file / 16 → 8 ≤ j → at (record_at turned k) j ≡ at (record_at file k) j

@@ -31,5 +31,5 @@ abbrev pub splits_of : Bool → SplitOn
 splits_of true = MostValues
 splits_of false = Lowest
 
-abbrev pub settingsOf : ℕ → Settings
-settingsOf b = record { tie = tie_of (eqb (b % 2) 1); splits = splits_of (eqb (b / 2 % 2) 1); weak = not (eqb (b / 4 % 2) 1) }
+abbrev pub settings_of : ℕ → Settings
+settings_of b = record { tie = tie_of (eqb (b % 2) 1); splits = splits_of (eqb (b / 2 % 2) 1); weak = not (eqb (b / 4 % 2) 1) }

@@ -5,7 +5,7 @@ use Rattle.rules.specs.declared.Gate.TheVariants.{Min, Max}
 use Rattle.rules.specs.declared.SplitOn.{SplitOn}
 use Rattle.rules.specs.declared.SplitOn.TheVariants.{Lowest, MostValues}
 use Rattle.rules.specs.declared.Settings.{Settings}
-use Rattle.rules.specs.Settings.{usual, settingsOf}
+use Rattle.rules.specs.Settings.{usual, settings_of}
 use Rattle.rules.specs.Verdict.{accepted, verdict_number}
 use Rattle.rules.specs.Network.{Record, constant, literal, gate}
 use Rattle.rules.specs.Stage.{none, sets, joining, choose}
@@ -96,10 +96,10 @@ SettingsTaken =
     × (compile_under (settings Min MostValues false) (1 ∷ 1 ∷ 1 ∷ 1 ∷ []) 128 112 ≡ 5)
     × (compile_under (settings Min MostValues false) E 128 112 ≡ 0)
     -- settings by the bits of a byte
-    × (settingsOf 0 ≡ usual)
-    × (settingsOf 1 ≡ settings Min Lowest true)
-    × (settingsOf 2 ≡ settings Max MostValues true)
-    × (settingsOf 4 ≡ settings Max Lowest false)
-    × (settingsOf 7 ≡ settings Min MostValues false)
-    × (settingsOf 248 ≡ usual)
-    × (settingsOf 255 ≡ settingsOf 7)
+    × (settings_of 0 ≡ usual)
+    × (settings_of 1 ≡ settings Min Lowest true)
+    × (settings_of 2 ≡ settings Max MostValues true)
+    × (settings_of 4 ≡ settings Max Lowest false)
+    × (settings_of 7 ≡ settings Min MostValues false)
+    × (settings_of 248 ≡ usual)
+    × (settings_of 255 ≡ settings_of 7)

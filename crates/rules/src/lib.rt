@@ -1,4 +1,6 @@
 // The types that the rules of document 01 speak of. The rules themselves are definitions, in specs/.
+#![tactic(auto)]
+
 ghost use Rattle.std.specs.Prelude.{◌≡◌};
 ghost use Rattle.rules.specs.Refusal.{refusal_number};
 
@@ -14,7 +16,7 @@ pub const PLACES: usize = 8;
 pub const NO_CELL: u8 = 255;
 
 // 01, Joins: the gate that combines two blocks, and the gate of a network's record.
-#[derive(Drop)]
+#[derive(Clone, Copy)]
 pub enum Gate {
     Min,
     Max,
@@ -22,21 +24,21 @@ pub enum Gate {
 
 // Request 6: whose table file it is. Ours has a lower and an upper grade for each cell that it lists,
 // the spreadsheet's a set of grades.
-#[derive(Drop)]
+#[derive(Clone, Copy)]
 pub enum Edition {
     Ours,
     Spreadsheet,
 }
 
 // What a call answers whose result is in buffers that it was lent.
-#[derive(Drop)]
+#[derive(Clone, Copy)]
 pub enum Outcome {
     Written,
     Refused(Refusal),
 }
 
 // Request 8: the condition that a split takes.
-#[derive(Drop)]
+#[derive(Clone, Copy)]
 pub enum SplitOn {
     // The one with the lowest number.
     Lowest,
@@ -45,7 +47,7 @@ pub enum SplitOn {
 }
 
 // Request 8: how a network is grown.
-#[derive(Drop)]
+#[derive(Clone, Copy)]
 pub struct Settings {
     // The gate that wins a full tie in step 4.
     pub tie: Gate,
@@ -55,7 +57,7 @@ pub struct Settings {
 }
 
 // 01, Places where a call stops, and the requests after it: a case for each row. specs/Refusal.antt gives each its number.
-#[derive(Drop)]
+#[derive(Clone, Copy)]
 pub enum Refusal {
     // The table file's length.
     FileLength,

@@ -8,7 +8,7 @@ use Rattle.rules.specs.declared.Gate.TheVariants.{Min, Max}
 use Rattle.rules.specs.declared.SplitOn.{SplitOn}
 use Rattle.rules.specs.declared.SplitOn.TheVariants.{Lowest, MostValues}
 use Rattle.rules.specs.declared.Settings.{Settings}
-use Rattle.rules.specs.Settings.{settingsOf}
+use Rattle.rules.specs.Settings.{settings_of}
 use Rattle.settings.specs.Byte.{tie_bit, splits_bit, weak_bit, byte_of}
 
 abbrev pub settings : Gate → SplitOn → Bool → Settings
@@ -19,7 +19,7 @@ pub settings_are : (how : Settings) {t : Gate} {s : SplitOn} {w : Bool} → t �
 settings_are how {t} {s} {w} et es ew = ap₂ (λ (x : Gate) (y : SplitOn). settings x y w) et es ∙ ap (settings how.tie how.splits) ew
 
 -- the byte of some settings says them
-pub byte-says : (t : Gate) (s : SplitOn) (w : Bool) → settingsOf (byte_of (settings t s w)) ≡ settings t s w
+pub byte-says : (t : Gate) (s : SplitOn) (w : Bool) → settings_of (byte_of (settings t s w)) ≡ settings t s w
 byte-says Min MostValues true = refl
 byte-says Min MostValues false = refl
 byte-says Min Lowest true = refl
@@ -50,7 +50,7 @@ module _ (how : Settings) {x y : ℕ} (ex : x ≡ tie_bit how.tie) (ey : y ≡ s
     pub all : x + y + z < 256
     all = let a = tie_low how.tie in let b = splits-low how.splits in let c = weak-low how.weak in omega arith
 
-    pub says : (x + y + z ≡ byte_of how) × (settingsOf (x + y + z) ≡ how)
+    pub says : (x + y + z ≡ byte_of how) × (settings_of (x + y + z) ≡ how)
     says =
         let e : x + y + z ≡ byte_of how = omega arith in
-        (e, ap settingsOf e ∙ byte-says how.tie how.splits how.weak)
+        (e, ap settings_of e ∙ byte-says how.tie how.splits how.weak)

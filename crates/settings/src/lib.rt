@@ -1,7 +1,9 @@
 // Request 8: settings for how a network is grown, and the byte that they are for C. Stages hand on the byte, one
 // argument in the place of a struct, and read a bit of it where they need one.
+#![tactic(auto)]
+
 ghost use Rattle.std.specs.Prelude.{◌%◌, ◌≡◌, eqb};
-ghost use Rattle.rules.specs.Settings.{usual, tie_of, splits_of, settingsOf};
+ghost use Rattle.rules.specs.Settings.{usual, tie_of, splits_of, settings_of};
 ghost use Rattle.settings.specs.Byte.{tie_bit, splits_bit, weak_bit, byte_of};
 
 use rules::{Gate, Settings, SplitOn};
@@ -42,28 +44,28 @@ fn splits_of(most: bool) -> SplitOn
 
 // The gate that wins a full tie: bit 0, min.
 pub fn tie(byte: u8) -> Gate
-    ensures { result ≡ (settingsOf byte).tie }
+    ensures { result ≡ (settings_of byte).tie }
 {
     tie_of(low_bit(byte))
 }
 
 // The condition that a split takes: bit 1, the one with most values.
 pub fn splits(byte: u8) -> SplitOn
-    ensures { result ≡ (settingsOf byte).splits }
+    ensures { result ≡ (settings_of byte).splits }
 {
     splits_of(low_bit(byte / 2))
 }
 
 // Whether weak joins are tried: bit 2, they are not.
 pub fn weak(byte: u8) -> bool
-    ensures { result ≡ (settingsOf byte).weak }
+    ensures { result ≡ (settings_of byte).weak }
 {
     !low_bit(byte / 4)
 }
 
 // The settings that a byte says. Its other bits are not looked at.
 pub fn of_byte(byte: u8) -> Settings
-    ensures { result ≡ settingsOf byte }
+    ensures { result ≡ settings_of byte }
 {
     Settings {
         tie: tie(byte),
@@ -98,7 +100,7 @@ fn weak_bit(weak: bool) -> u8
 
 // A byte that says these settings.
 pub fn to_byte(how: Settings) -> u8
-    ensures { (result ≡ byte_of how) × (settingsOf result ≡ how) }
+    ensures { (result ≡ byte_of how) × (settings_of result ≡ how) }
 {
     let tie = how.tie;
     let splits = how.splits;

@@ -1,4 +1,6 @@
 // Shapes: how many conditions, their cardinalities, how many grades.
+#![tactic(auto)]
+
 ghost use Rattle.std.specs.Prelude.{◌≡◌, max};
 ghost use Rattle.rules.specs.Bytes.{at, all};
 ghost use Rattle.rules.specs.Cell.{cells, card};
@@ -9,7 +11,7 @@ use rules::{PLACES, Refusal};
 
 // n conditions, the cardinality of each by its number, 0 beyond n, and m grades. A shape that is
 // made by hand may hold anything: each call that is given one judges it.
-#[derive(Drop)]
+#[derive(Clone, Copy)]
 pub struct Shape {
     pub n: u8,
     pub c0: u8,
@@ -23,7 +25,7 @@ pub struct Shape {
     pub m: u8,
 }
 
-#[derive(Drop)]
+#[derive(Clone, Copy)]
 pub enum ShapeAnswer {
     Accepted(Shape),
     Refused(Refusal),

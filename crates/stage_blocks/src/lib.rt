@@ -1,5 +1,7 @@
 // Step 5 of a stage: the tables of a join's two blocks, at the front of what is lent on, and what
 // the blocks' functions come to.
+#![tactic(auto)]
+
 ghost use Rattle.std.specs.Prelude.{◌+◌, ◌*◌, ◌≤◌, ◌≡◌};
 ghost use Rattle.rules.specs.Cell.{cells};
 ghost use Rattle.rules.specs.Join.{exchange_for};

@@ -12,11 +12,10 @@ use Rattle.rules.specs.declared.Settings.{Settings}
 use Rattle.rules.specs.Bytes.{at, numbers_from}
 use Rattle.rules.specs.Cell.{cells, present}
 use Rattle.rules.specs.Join.{exchange_for, join_exists}
-use Rattle.rules.specs.Stage as rules
 use Rattle.rules.specs.Stage.{Stage, first_pair, joining, grouping, groups, keeps_max, choose}
 use Rattle.tables.specs.Part.{part, Shaped}
 use Rattle.tables.proofs.PartLaws.{part_at, part_same}
-use Rattle.join_tables.specs.Parts.{turned, Below}
+use Rattle.join_tables.specs.Parts.{Below}
 use Rattle.masks.specs.declared.Pair.{Pair}
 use Rattle.masks.specs.declared.Pair.TheVariants.{Nothing as NoPair, Found as APair}
 use Rattle.masks.specs.Masks.{mask_part, Known}
@@ -29,25 +28,25 @@ use Rattle.grouping.proofs.GroupedLaws.{grouped_nothing}
 use Rattle.stage_choice.specs.declared.Choice.{Choice}
 use Rattle.stage_choice.specs.declared.Choice.TheVariants.{Leaf, Split, Join}
 use Rattle.stage_choice.specs.declared.Found.{Found}
-use Rattle.stage_choice.specs.declared.Found.TheVariants.{Nothing, Sets as Some}
+use Rattle.stage_choice.specs.declared.Found.TheVariants.{Nothing, Sets as TwoSets}
 use Rattle.stage_choice.specs.Choosing.{Does, found_sets, Spaced, Exchangeable, Exchanged, limits_at, Stays, Limited, LimitsLaid, Tabled, Sought, Taken, Decided, Settled, Prepared, Chosen}
-use Rattle.stage_drops.specs.Working.{Room, frontStage, Proper, ForBoth}
+use Rattle.stage_drops.specs.Working.{Room, front_stage, Proper, ForBoth}
 use Rattle.stage_drops.proofs.DropLaws.{stage_of}
 use Rattle.stage_choice.proofs.SpaceLaws.{ahead, behind}
 
 -- what is found, taken apart
 abbrev Empty : Found → Type 0
 Empty Nothing = Unit {0}
-Empty (Some p) = ⊥
+Empty (TwoSets p) = ⊥
 
-differ : {of : Sets} → Nothing ≡ Some of → ⊥
+differ : {of : Sets} → Nothing ≡ TwoSets of → ⊥
 differ e = subst Empty e tt
 
 abbrev found-sets : Sets → Found → Sets
 found-sets p Nothing = p
-found-sets p (Some q) = q
+found-sets p (TwoSets q) = q
 
-same-sets : {p q : Sets} → Some p ≡ Some q → p ≡ q
+same-sets : {p q : Sets} → TwoSets p ≡ TwoSets q → p ≡ q
 same-sets {p} e = ap (found-sets p) e
 
 -- a choice between two groupings that are known
@@ -55,13 +54,13 @@ pub decided : {tie : Gate} {a b : Found} (x y : Found) (r : Choice) → a ≡ x 
 decided {tie} {a} {b} x y r ea eb e t =
     subst (λ (z : Found). Decided tie z b r) (sym ea) (subst (λ (z : Found). Decided tie x z r) (sym eb) (record { is = e; taken = t }))
 
-module _ (tie : Gate) {a b : Found} {p q : Sets} (ea : a ≡ Some p) (eb : b ≡ Some q) {k : Bool} (e : k ≡ keeps_max tie p.s p.t q.s q.t) where
-  kept_choice : (v : Bool) → k ≡ v → choose tie (found_sets (Some p)) (found_sets (Some q)) ≡ cond v (joining Max p.s p.t) (joining Min q.s q.t)
+module _ (tie : Gate) {a b : Found} {p q : Sets} (ea : a ≡ TwoSets p) (eb : b ≡ TwoSets q) {k : Bool} (e : k ≡ keeps_max tie p.s p.t q.s q.t) where
+  kept_choice : (v : Bool) → k ≡ v → choose tie (found_sets (TwoSets p)) (found_sets (TwoSets q)) ≡ cond v (joining Max p.s p.t) (joining Min q.s q.t)
   kept_choice v h = ap (λ (z : Bool). cond z (joining Max p.s p.t) (joining Min q.s q.t)) (sym e ∙ h)
 
   pub decided_both : (v : Bool) → k ≡ v → Decided tie a b (cond v (Join Max p) (Join Min q))
-  decided_both true h = decided (Some p) (Some q) (Join Max p) ea eb (kept_choice true h) refl
-  decided_both false h = decided (Some p) (Some q) (Join Min q) ea eb (kept_choice false h) refl
+  decided_both true h = decided (TwoSets p) (TwoSets q) (Join Max p) ea eb (kept_choice true h) refl
+  decided_both false h = decided (TwoSets p) (TwoSets q) (Join Min q) ea eb (kept_choice false h) refl
 
 -- the parts that a grouping works in
 pub space : {w ks : List ℕ} {n : ℕ} → Shaped ks → n ≡ cells ks → Spaced w n → (low : ℕ) → low + n + n + n ≤ 8 * n → Space w ks low (low + n + n) (low + n)
@@ -97,7 +96,7 @@ below_of {w} {a} {n} {m} h = record { grade = λ k l. subst (λ (g : ℕ). g ≤
 
 -- the limits as the join of a gate wants them
 module _ {w ks : List ℕ} {m n : ℕ} (p : Room w ks n) where
-  pub exchangeable : Proper m (frontStage ks w) → Exchangeable w m n
+  pub exchangeable : Proper m (front_stage ks w) → Exchangeable w m n
   exchangeable r =
       let s = subst (Spaced w) p.own (room-spaced p) in
       subst (Exchangeable w m) (sym p.own)
@@ -120,7 +119,7 @@ module _ {w ks : List ℕ} {m n : ℕ} (p : Room w ks n) where
       record {
         place = refl;
         limits =
-            subst (λ (k : ℕ). Limited Min m (frontStage ks w) (3 * k) w') (sym p.own)
+            subst (λ (k : ℕ). Limited Min m (front_stage ks w) (3 * k) w') (sym p.own)
             (record { lows = x.lows; highs = ap (λ (a : ℕ). part w' a c) (sym q) ∙ x.highs });
         kept = λ j h. e.kept.other j (λ a b. omega arith) (λ a b. omega arith);
         len = e.kept.len;
@@ -129,7 +128,7 @@ module _ {w ks : List ℕ} {m n : ℕ} (p : Room w ks n) where
 -- the grouping for a gate, from the first pair that joins by it
 module _ (gate : Gate) (m : ℕ) (w ks : List ℕ) where
   abbrev x : Stage
-  x = frontStage ks w
+  x = front_stage ks w
 
   abbrev gate_joins : ℕ → ℕ → Bool
   gate_joins a b = join_exists gate ks m a b x.limits
@@ -165,7 +164,7 @@ module _ (gate : Gate) (m : ℕ) (w ks : List ℕ) where
         }
 
     pub sought_some : length ks ≡ 8 → {of : Sets} {w₂ : List ℕ} → Space w₁ ks r (r + n + n) (r + n) → Grouped w₁ ks r (r + n) (r + n + n) (r + n) of w₂
-        → Sought gate m ks w (Some of) w₂
+        → Sought gate m ks w (TwoSets of) w₂
     sought_some eight {of} {w₂} s g =
         record {
           is = g.is ∙ ap (λ (js : ℕ → ℕ → Bool). grouping (present ks) js (numbers_from 0 8)) (sym joins-here) ∙ whole eight;
@@ -200,7 +199,7 @@ module _ (gate : Gate) (m : ℕ) (w ks : List ℕ) where
 
 -- both groupings sought, the one for min first: the stage stays at the front for the other
 module _ {m : ℕ} {ks w : List ℕ} (long : 8 * cells ks ≤ length w) {b : Found} {w₁ : List ℕ} (min : Sought Min m ks w b w₁) where
-  pub same-front : frontStage ks w₁ ≡ frontStage ks w
+  pub same-front : front_stage ks w₁ ≡ front_stage ks w
   same-front = ap₂ (stage_of ks) (stay 0 (omega arith)) (stay (cells ks) (omega arith))
     where
       stay : (a : ℕ) → a + cells ks ≤ 2 * cells ks → part w₁ a (cells ks) ≡ part w a (cells ks)
@@ -211,12 +210,12 @@ module _ {m : ℕ} {ks w : List ℕ} (long : 8 * cells ks ≤ length w) {b : Fou
     behind_max i h l = let e = min.len in part_same w₁ w₂ i (cells ks) (omega arith) max.len (λ j lt. max.kept (i + j) (omega arith))
 
     -- the tables of the choice
-    for_both : {gate : Gate} {low : ℕ} {of : Sets} {v w₃ : List ℕ} → Tabled gate m (frontStage ks w) low of v → part w₃ 0 (cells ks) ≡ part v low (cells ks)
+    for_both : {gate : Gate} {low : ℕ} {of : Sets} {v w₃ : List ℕ} → Tabled gate m (front_stage ks w) low of v → part w₃ 0 (cells ks) ≡ part v low (cells ks)
         → part w₃ (cells ks) (cells ks) ≡ part v (low + cells ks) (cells ks) → part w₃ (2 * cells ks) (cells ks) ≡ part v (low + cells ks + cells ks) (cells ks)
-        → ForBoth gate m (frontStage ks w) of.s of.t w₃
+        → ForBoth gate m (front_stage ks w) of.s of.t w₃
     for_both t e f g = record { second = record { lows = e ∙ t.lows; seconds = f ∙ t.held.second }; firsts = g ∙ t.held.first }
 
-    prepared : (w₃ : List ℕ) (r : Choice) → Taken a b r → Settled (cells ks) w₂ r w₃ → Prepared m (frontStage ks w) w r w₃
+    prepared : (w₃ : List ℕ) (r : Choice) → Taken a b r → Settled (cells ks) w₂ r w₃ → Prepared m (front_stage ks w) w r w₃
     prepared w₃ Leaf t e = absurd t
     prepared w₃ Split t e = e ∙ max.off t.0 ∙ min.off t.1
     prepared w₃ (Join Max of) t e =
@@ -232,7 +231,7 @@ module _ {m : ℕ} {ks w : List ℕ} (long : 8 * cells ks ≤ length w) {b : Fou
         (e.firsts ∙ here (5 * c) (3 * c + c + c) (omega arith) (omega arith) (omega arith))
 
     pub is-chosen : (how : Settings) {w₃ : List ℕ} {n : ℕ} (r : Choice) → n ≡ cells ks → Decided how.tie a b r → Settled n w₂ r w₃ → length w₃ ≡ length w
-        → Chosen how m (frontStage ks w) w r w₃
+        → Chosen how m (front_stage ks w) w r w₃
     is-chosen how {w₃} r q d e l =
         record {
           is = subst (Does r) (ap₂ (choose how.tie) (max.is ∙ ap (λ (x : Stage). groups m x Max) same-front) min.is) d.is;
@@ -241,15 +240,15 @@ module _ {m : ℕ} {ks w : List ℕ} (long : 8 * cells ks ≤ length w) {b : Fou
         }
 
 -- what the two searches for a grouping ask, from the masks
-module _ {m : ℕ} {ks w : List ℕ} {n : ℕ} (room : Room w ks n) (proper : Proper m (frontStage ks w)) (k : Known m ks w) where
+module _ {m : ℕ} {ks w : List ℕ} {n : ℕ} (room : Room w ks n) (proper : Proper m (front_stage ks w)) (k : Known m ks w) where
   pair_of : (op : Gate) {r : Pair} → Searched ks (part w (mask_part op n) n) r → FirstPair ks (gate_joins op m w ks) r
   pair_of op {r} s = (subst (λ (c : ℕ). Searched ks (part w (mask_part op c) c) r) room.own s).first op m _ (k.masks op)
 
-  pub seek_min : {r : Pair} → Searched ks (part w (3 * n) n) r → Room w ks n × Proper m (frontStage ks w) × FirstPair ks (gate_joins Min m w ks) r
+  pub seek_min : {r : Pair} → Searched ks (part w (3 * n) n) r → Room w ks n × Proper m (front_stage ks w) × FirstPair ks (gate_joins Min m w ks) r
   seek_min s = (room, proper, pair_of Min s)
 
   pub seek_max : {r : Pair} {b : Found} {w₁ : List ℕ} → Searched ks (part w (2 * n) n) r → Sought Min m ks w b w₁
-      → Room w₁ ks n × Proper m (frontStage ks w₁) × FirstPair ks (gate_joins Max m w₁ ks) r
+      → Room w₁ ks n × Proper m (front_stage ks w₁) × FirstPair ks (gate_joins Max m w₁ ks) r
   seek_max {r} s q =
       let e = sym (same-front (own-length room) q) in
       let l = room.room in

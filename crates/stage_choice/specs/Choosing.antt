@@ -15,8 +15,8 @@ use Rattle.grouping.specs.Growing.{Held, Kept, sets_of}
 use Rattle.stage_choice.specs.declared.Choice.{Choice}
 use Rattle.stage_choice.specs.declared.Choice.TheVariants.{Leaf, Split, Join}
 use Rattle.stage_choice.specs.declared.Found.{Found}
-use Rattle.stage_choice.specs.declared.Found.TheVariants.{Nothing, Sets as Some}
-use Rattle.stage_drops.specs.Working.{frontStage, ForBoth}
+use Rattle.stage_choice.specs.declared.Found.TheVariants.{Nothing, Sets as TwoSets}
+use Rattle.stage_drops.specs.Working.{front_stage, ForBoth}
 
 -- a choice of the code is one of the rules, which are asked only where two conditions are left
 abbrev pub Does : Choice → rules.Choice → Type 0
@@ -26,7 +26,7 @@ Does (Join gate of) q = q ≡ joining gate of.s of.t
 
 abbrev pub found_sets : Found → Grouping
 found_sets Nothing = none
-found_sets (Some p) = sets_of p
+found_sets (TwoSets p) = sets_of p
 
 -- eight parts of n bytes
 pub record Spaced (w : List ℕ) (n : ℕ) : Type 0 where
@@ -63,7 +63,7 @@ pub record Limited (gate : Gate) (m : ℕ) (x : Stage) (low : ℕ) (w : List ℕ
 -- and were laid there
 pub record LimitsLaid (gate : Gate) (m : ℕ) (ks : List ℕ) (n : ℕ) (w : List ℕ) (r : ℕ) (w' : List ℕ) : Type 0 where
   pub place : r ≡ limits_at gate n
-  pub limits : Limited gate m (frontStage ks w) r w'
+  pub limits : Limited gate m (front_stage ks w) r w'
   pub kept : (j : ℕ) → Stays gate n j → at w' j ≡ at w j
   pub len : length w' ≡ length w
 
@@ -74,8 +74,8 @@ pub record Tabled (gate : Gate) (m : ℕ) (x : Stage) (low : ℕ) (of : Sets) (w
 
 -- the grouping for a gate of the stage at the front; where there is none, nothing was written
 pub record Sought (gate : Gate) (m : ℕ) (ks w : List ℕ) (r : Found) (w' : List ℕ) : Type 0 where
-  pub is : found_sets r ≡ groups m (frontStage ks w) gate
-  pub tables : (of : Sets) → r ≡ Some of → Tabled gate m (frontStage ks w) (limits_at gate (cells ks)) of w'
+  pub is : found_sets r ≡ groups m (front_stage ks w) gate
+  pub tables : (of : Sets) → r ≡ TwoSets of → Tabled gate m (front_stage ks w) (limits_at gate (cells ks)) of w'
   pub off : r ≡ Nothing → w' ≡ w
   pub kept : (j : ℕ) → Stays gate (cells ks) j → at w' j ≡ at w j
   pub len : length w' ≡ length w
@@ -84,8 +84,8 @@ pub record Sought (gate : Gate) (m : ℕ) (ks w : List ℕ) (r : Found) (w' : Li
 abbrev pub Taken : Found → Found → Choice → Type 0
 Taken a b Leaf = ⊥
 Taken a b Split = (a ≡ Nothing) × (b ≡ Nothing)
-Taken a b (Join Max of) = a ≡ Some of
-Taken a b (Join Min of) = b ≡ Some of
+Taken a b (Join Max of) = a ≡ TwoSets of
+Taken a b (Join Min of) = b ≡ TwoSets of
 
 -- the choice between the grouping for max and the one for min, by the gate that wins ties
 pub record Decided (tie : Gate) (a b : Found) (r : Choice) : Type 0 where

@@ -1,10 +1,11 @@
 // Steps 3 and 4 of a stage: which join, or a split.
+#![tactic(auto)]
 
 ghost use Rattle.rules.specs.Join.{join_exists};
 ghost use Rattle.masks.specs.Masks.{Known};
 ghost use Rattle.masks.specs.Searching.{FirstPair};
-ghost use Rattle.stage_drops.specs.Working.{Room, frontStage, Proper};
-ghost use Rattle.rules.specs.Settings.{settingsOf};
+ghost use Rattle.stage_drops.specs.Working.{Room, front_stage, Proper};
+ghost use Rattle.rules.specs.Settings.{settings_of};
 ghost use Rattle.stage_choice.specs.Choosing.{Spaced, Exchangeable, Exchanged, LimitsLaid, Sought, Decided, MinSettled, Settled, Chosen};
 
 use grouping::Sets;
@@ -13,7 +14,7 @@ use rules::{Gate, PLACES};
 use tables::fill;
 
 // What a stage does: the one record of a stage with no condition left or one, a split, or a join.
-#[derive(Drop)]
+#[derive(Clone, Copy)]
 pub enum Choice {
     Leaf,
     Split,
@@ -21,7 +22,7 @@ pub enum Choice {
 }
 
 // What a search for a join ends with.
-#[derive(Drop)]
+#[derive(Clone, Copy)]
 pub enum Found {
     Nothing,
     Sets(Sets),
@@ -38,7 +39,7 @@ fn exchange_limits(w: &mut [u8], m: u8, n: usize)
 
 // Where the limits stand as the join of a gate wants them: for min they are exchanged first.
 fn lay_limits(w: &mut [u8], gate: Gate, ks: [u8; PLACES], m: u8, n: usize) -> usize
-    requires { Room w.old ks n × Proper m (frontStage ks w.old) }
+    requires { Room w.old ks n × Proper m (front_stage ks w.old) }
     ensures { LimitsLaid gate m ks n w.old result w.new }
 {
     match gate {
@@ -53,7 +54,7 @@ fn lay_limits(w: &mut [u8], gate: Gate, ks: [u8; PLACES], m: u8, n: usize) -> us
 // The grouping for a gate, which grows from the first pair that joins by it. Where there is none, nothing is
 // written.
 fn seek(w: &mut [u8], gate: Gate, ks: [u8; PLACES], m: u8, n: usize, pair: Pair) -> Found
-    requires { Room w.old ks n × Proper m (frontStage ks w.old) × FirstPair ks (λ a b. join_exists gate ks m a b (frontStage ks w.old).limits) «pair» }
+    requires { Room w.old ks n × Proper m (front_stage ks w.old) × FirstPair ks (λ a b. join_exists gate ks m a b (front_stage ks w.old).limits) «pair» }
     ensures { Sought gate m ks w.old result w.new }
 {
     let Pair::Found(i, j) = pair else {
@@ -115,8 +116,8 @@ fn settle(w: &mut [u8], choice: Choice, n: usize)
 // The pairs are found first, since the tables of a grouping take the masks' places, and the min grouping is sought
 // first, since those of a max grouping take the upper limits' place.
 pub fn choose(w: &mut [u8], ks: [u8; PLACES], m: u8, n: usize, how: u8) -> Choice
-    requires { Room w.old ks n × Proper m (frontStage ks w.old) × Known m ks w.old }
-    ensures { Chosen (settingsOf how) m (frontStage ks w.old) w.old result w.new }
+    requires { Room w.old ks n × Proper m (front_stage ks w.old) × Known m ks w.old }
+    ensures { Chosen (settings_of how) m (front_stage ks w.old) w.old result w.new }
 {
     let for_max = masks::first_pair(w, ks, 2 * n, n);
     let for_min = masks::first_pair(w, ks, 3 * n, n);

@@ -16,7 +16,7 @@ use Rattle.lines.specs.declared.Along.{Along}
 use Rattle.tables.proofs.PartLaws.{part_at}
 use Rattle.tables.proofs.ScanLaws.{all_passed}
 use Rattle.lines.proofs.AlongLaws.{Walks, walks_least}
-use Rattle.stage_drops.specs.Working.{frontStage}
+use Rattle.stage_drops.specs.Working.{front_stage}
 
 -- the test at every cell, under the rules' definitions
 abbrev pub drop_cell : List ℕ → List ℕ → ℕ → ℕ → ℕ → Bool
@@ -35,5 +35,5 @@ module _ (w ks : List ℕ) (i high : ℕ) where
   drop_failed k h e = sym (all_false (cells ks) (drop_cell w ks i high) k h e) ∙ drop-is ks i (stage_at ks w 0 high).limits
 
 -- the upper limits start behind as many lower ones as there are cells
-pub limits-at : (ks w : List ℕ) (i : ℕ) {n : ℕ} → n ≡ cells ks → fits ks (merged i (stage_at ks w 0 n)) ≡ fits ks (merged i (frontStage ks w))
+pub limits-at : (ks w : List ℕ) (i : ℕ) {n : ℕ} → n ≡ cells ks → fits ks (merged i (stage_at ks w 0 n)) ≡ fits ks (merged i (front_stage ks w))
 limits-at ks w i e = ap (λ (k : ℕ). fits ks (merged i (stage_at ks w 0 k))) e

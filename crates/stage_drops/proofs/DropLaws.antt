@@ -19,7 +19,7 @@ use Rattle.tables.specs.Line.{best, line_extremes, Counts}
 use Rattle.tables.proofs.PartLaws.{part_same, laid-part}
 use Rattle.tables.proofs.OverLaws.{Counted}
 use Rattle.tables.proofs.PackLaws.{packed_cells, packed_over}
-use Rattle.stage_drops.specs.Working.{Room, frontStage, Turned}
+use Rattle.stage_drops.specs.Working.{Room, front_stage, Turned}
 
 pub fewer-shaped : (t : ℕ) {ks : List ℕ} → Shaped ks → Shaped (without t ks)
 fewer-shaped t {ks} h = let l = without-cells t ks h.some in let f = h.few in record { some = without_pos t ks h.some; few = omega arith }
@@ -85,7 +85,7 @@ and_false false e = refl
 
 module _ (ks w : List ℕ) (i : ℕ) where
   abbrev x : Stage
-  x = frontStage ks w
+  x = front_stage ks w
 
   dropped : (q : Bool) → (present ks i && fits ks (merged i x)) ≡ q → drop_one i x ≡ cond q (outside (singleton i) x (merged i x)) x
   dropped q e = ap (λ (p : Bool). cond p (outside (singleton i) x (merged i x)) x) e
@@ -114,15 +114,15 @@ tried-more {ks} {w} {r} {w'} {r'} {w''} i t u =
     let next : suc i ≡ i + 1 = omega arith in
     record {
       stage =
-          u.stage ∙ ap (drop_one i) t.stage ∙ ap (λ (k : ℕ). drop_one k (drops (numbers_from 0 i) (frontStage ks w))) (sym (zero-add i))
-          ∙ sym (drops-next 0 i (frontStage ks w)) ∙ ap (λ (n : ℕ). drops (numbers_from 0 n) (frontStage ks w)) next;
+          u.stage ∙ ap (drop_one i) t.stage ∙ ap (λ (k : ℕ). drop_one k (drops (numbers_from 0 i) (front_stage ks w))) (sym (zero-add i))
+          ∙ sym (drops-next 0 i (front_stage ks w)) ∙ ap (λ (n : ℕ). drops (numbers_from 0 n) (front_stage ks w)) next;
       len = u.len ∙ t.len;
     }
 
 pub tried-room : {ks w r w' : List ℕ} {c n : ℕ} (i : ℕ) → Room w ks c → n ≡ cells r → Tried ks i w r w' → Room w' r n
 tried-room {ks} {w} {r} {w'} {c} {n} i m q t =
-    let s = drops_shrunk (numbers_from 0 i) (frontStage ks w) m.shaped.some in
-    let e : r ≡ (drops (numbers_from 0 i) (frontStage ks w)).ks = ap (λ (x : Stage). x.ks) t.stage in
+    let s = drops_shrunk (numbers_from 0 i) (front_stage ks w) m.shaped.some in
+    let e : r ≡ (drops (numbers_from 0 i) (front_stage ks w)).ks = ap (λ (x : Stage). x.ks) t.stage in
     let less : cells r ≤ cells ks = subst (λ (k : List ℕ). cells k ≤ cells ks) (sym e) s.less in
     let f = m.shaped.few in
     let o = m.own in
@@ -132,7 +132,7 @@ tried-room {ks} {w} {r} {w'} {c} {n} i m q t =
 
 -- all of them
 pub tried-all : {ks w r w' : List ℕ} (i : ℕ) → i ≡ length ks → Tried ks i w r w' → Turned left ks w r w'
-tried-all {ks} {w} {r} {w'} i e t = record { stage = t.stage ∙ ap (λ (n : ℕ). drops (numbers_from 0 n) (frontStage ks w)) e; len = t.len }
+tried-all {ks} {w} {r} {w'} i e t = record { stage = t.stage ∙ ap (λ (n : ℕ). drops (numbers_from 0 n) (front_stage ks w)) e; len = t.len }
 
 -- a loop's state: the conditions below j tried, the places, cells and limits that are left, and the step of condition i
 pub record Going (ks w : List ℕ) (j i : ℕ) (r : List ℕ) (n stp : ℕ) (w' : List ℕ) : Type 0 where

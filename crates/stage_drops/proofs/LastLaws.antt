@@ -11,7 +11,7 @@ use Rattle.laws.proofs.LowestLaws.{none_left, some_left, narrow-left}
 use Rattle.places.specs.declared.sets.Condition.{Condition}
 use Rattle.places.specs.Conditions.{IsLowest}
 use Rattle.tables.specs.Line.{Counts}
-use Rattle.stage_drops.specs.Working.{Room, frontStage, Turned}
+use Rattle.stage_drops.specs.Working.{Room, front_stage, Turned}
 
 -- the lowest condition has as many values as there are cells: it is the only one, or there is none
 module _ {ks : List ℕ} {low : Condition} {n : ℕ} (w : List ℕ) (room : Room w ks n) (is : IsLowest ks low) (all : low.values ≡ n) where
@@ -21,7 +21,7 @@ module _ {ks : List ℕ} {low : Condition} {n : ℕ} (w : List ℕ) (room : Room
   pub none-turned : length ks ≡ 8 → 8 ≤ low.number → Turned left ks w ks w
   none-turned e l =
       let f = is.number in
-      record { stage = sym (none_dropped (frontStage ks w) (none_left ks room.shaped.some (omega arith))); len = refl }
+      record { stage = sym (none_dropped (front_stage ks w) (none_left ks room.shaped.some (omega arith))); len = refl }
 
   module _ (l : low.number < 8) (e : length ks ≡ 8) where
     some : 1 ≤ width ks
@@ -35,7 +35,7 @@ module _ {ks : List ℕ} {low : Condition} {n : ℕ} (w : List ℕ) (room : Room
     last-turned t =
         record {
           stage =
-              t.stage ∙ ap (λ (i : ℕ). drop_one i (frontStage ks w)) is.number
-              ∙ sym (one_dropped (frontStage ks w) room.shaped.some (let a = narrow in let b = some in omega arith));
+              t.stage ∙ ap (λ (i : ℕ). drop_one i (front_stage ks w)) is.number
+              ∙ sym (one_dropped (front_stage ks w) room.shaped.some (let a = narrow in let b = some in omega arith));
           len = t.len;
         }

@@ -15,12 +15,12 @@ pub record Room (w ks : List ℕ) (c : ℕ) : Type 0 where
   pub room : 8 * c ≤ length w
 
 -- the stage over the places ks whose limits are the front of the buffer
-abbrev pub frontStage : List ℕ → List ℕ → Stage
-frontStage ks w = stage_at ks w 0 (cells ks)
+abbrev pub front_stage : List ℕ → List ℕ → Stage
+front_stage ks w = stage_at ks w 0 (cells ks)
 
 -- it became what f makes of it, over the places r
 pub record Turned (f : Stage → Stage) (ks w r w' : List ℕ) : Type 0 where
-  pub stage : frontStage r w' ≡ f (frontStage ks w)
+  pub stage : front_stage r w' ≡ f (front_stage ks w)
   pub len : length w' ≡ length w
 
 -- a stage with limits in order, below m grades

@@ -1,12 +1,14 @@
 // Step 1 of a stage: conditions that can be dropped. The stage's limits are at the front of its buffer, the
 // lower ones and right behind them the upper ones, a byte for each cell. A drop leaves them so.
+#![tactic(auto)]
+
 ghost use Rattle.std.specs.Prelude.{◌≡◌, true, cond, ◌⊎◌, ◌+◌, ◌*◌, ◌≤◌, ◌<◌};
 ghost use Rattle.rules.specs.Cell.{cells, singleton, without};
 ghost use Rattle.rules.specs.Stage.{outside, merged, fits, drop_one, left};
 ghost use Rattle.places.specs.Conditions.{IsLowest};
 ghost use Rattle.tables.specs.Line.{Blocks, line_extremes, Counts};
 ghost use Rattle.tables.specs.Part.{Laid};
-ghost use Rattle.stage_drops.specs.Working.{Room, frontStage, Turned};
+ghost use Rattle.stage_drops.specs.Working.{Room, front_stage, Turned};
 
 use places::sets;
 use places::sets::Condition;
@@ -14,7 +16,7 @@ use rows::packing;
 use rules::PLACES;
 
 // What a stage has left: its places, and how many cells these have.
-#[derive(Drop)]
+#[derive(Clone, Copy)]
 pub struct Left {
     pub places: [u8; PLACES],
     pub cells: usize,
@@ -54,7 +56,7 @@ fn drop_condition(w: &mut [u8], ks: [u8; PLACES], i: usize, n: usize, step: usiz
 // Whether condition i can be dropped: no lower grade is above the least upper grade over it.
 fn can_drop(w: &[u8], ks: [u8; PLACES], i: usize, n: usize, step: usize) -> bool
     requires { Counts ks i n step × Room w.now ks n }
-    ensures { result ≡ fits ks (merged i (frontStage ks w.now)) }
+    ensures { result ≡ fits ks (merged i (front_stage ks w.now)) }
 {
     let mut on = lines::first(step, ks[i] as usize);
     for c in 0..n {

@@ -26,7 +26,7 @@ use Rattle.masks.specs.Masks.{Known, none_has, some_full, is_full_from, every, U
 use Rattle.masks.proofs.SplitLaws.{refused-left, full_split, seen_left}
 use Rattle.mask_making.specs.Making.{Space, Made}
 use Rattle.mask_making.proofs.MadeLaws.{made_known}
-use Rattle.stage_drops.specs.Working.{Room, frontStage, Turned, Proper}
+use Rattle.stage_drops.specs.Working.{Room, front_stage, Turned, Proper}
 use Rattle.stage_drops.proofs.DropLaws.{stage_of, fewer-shaped, as_shaped}
 use Rattle.stage_choice.specs.declared.Choice.{Choice}
 use Rattle.stage_choice.specs.declared.Choice.TheVariants.{Leaf, Split, Join}
@@ -39,7 +39,7 @@ proper-ready s h = record { grades = h.some; pos = s.some; good = record { room 
 
 module _ {ks w : List ℕ} {n : ℕ} (room : Room w ks n) where
   abbrev x : Stage
-  x = frontStage ks w
+  x = front_stage ks w
 
   pub ordered : {m : ℕ} → Proper m x → Ordered w n
   ordered h =
@@ -55,7 +55,7 @@ module _ {ks w : List ℕ} {n : ℕ} (room : Room w ks n) where
 
   -- the masks made
   module _ {w' : List ℕ} (o : Ordered w n) (d : Made w ks n w') where
-    pub made_stage : frontStage ks w' ≡ x
+    pub made_stage : front_stage ks w' ≡ x
     made_stage = ap₂ (stage_of ks) (same 0 (omega arith)) (same (cells ks) (omega arith))
       where
         same : (a : ℕ) → a + cells ks ≤ 2 * cells ks → part w' a (cells ks) ≡ part w a (cells ks)
@@ -81,14 +81,14 @@ module _ {ks w : List ℕ} {n : ℕ} {low : Condition} (room : Room w ks n) (is 
   pub wide-here : (low.values ≡ n → ⊥) → 2 ≤ width ks
   wide-here ne = wide-left ks room.shaped.some (λ e. ne (is.values ∙ e ∙ sym room.own))
 
-  pub does-leaf : {how : Settings} {m : ℕ} → low.values ≡ n → Doing how m (frontStage ks w) w Leaf w
+  pub does-leaf : {how : Settings} {m : ℕ} → low.values ≡ n → Doing how m (front_stage ks w) w Leaf w
   does-leaf e = record { finds = record { narrow = narrow-here e; stage = refl }; len = refl }
 
-pub does-chosen : {how : Settings} {m : ℕ} (ks w : List ℕ) (r : Choice) {w' : List ℕ} → 2 ≤ width ks → Known m ks w → Chosen how m (frontStage ks w) w r w' → Doing how m (frontStage ks w) w r w'
+pub does-chosen : {how : Settings} {m : ℕ} (ks w : List ℕ) (r : Choice) {w' : List ℕ} → 2 ≤ width ks → Known m ks w → Chosen how m (front_stage ks w) w r w' → Doing how m (front_stage ks w) w r w'
 does-chosen ks w Leaf wide k c = absurd c.is
 does-chosen {m = m} ks w Split wide k c =
     record {
-      finds = record { wide = wide; is = c.is; stage = ap (frontStage ks) c.tables; masks = subst (Known m ks) (sym c.tables) k };
+      finds = record { wide = wide; is = c.is; stage = ap (front_stage ks) c.tables; masks = subst (Known m ks) (sym c.tables) k };
       len = c.len;
     }
 does-chosen ks w (Join gate of) wide k c = record { finds = record { wide = wide; is = c.is; tables = c.tables }; len = c.len }
@@ -99,15 +99,15 @@ does-same {how} {m} {y} {z} {v} {w} {r} {w'} e l d =
     subst (λ (x : Stage). Doing how m x w r w') e (record { finds = d.finds; len = d.len ∙ l })
 
 -- conditions were dropped
-module _ {m : ℕ} {ks w : List ℕ} {n : ℕ} (room : Room w ks n) (proper : Proper m (frontStage ks w)) {l w₁ : List ℕ} (t : Turned left ks w l w₁) where
+module _ {m : ℕ} {ks w : List ℕ} {n : ℕ} (room : Room w ks n) (proper : Proper m (front_stage ks w)) {l w₁ : List ℕ} (t : Turned left ks w l w₁) where
   abbrev y : Stage
-  y = left (frontStage ks w)
+  y = left (front_stage ks w)
 
   places : l ≡ y.ks
   places = ap (λ (z : Stage). z.ks) t.stage
 
-  shrunk : Shrunk (frontStage ks w) y
-  shrunk = left_shrunk (frontStage ks w) room.shaped.some
+  shrunk : Shrunk (front_stage ks w) y
+  shrunk = left_shrunk (front_stage ks w) room.shaped.some
 
   pub left-room : {k : ℕ} → k ≡ cells l → Room w₁ l k
   left-room {k} e =
@@ -119,18 +119,18 @@ module _ {m : ℕ} {ks w : List ℕ} {n : ℕ} (room : Room w ks n) (proper : Pr
       let h = t.len in
       record { shaped = as_shaped places (record { some = shrunk.pos; few = omega arith }); own = e; room = omega arith }
 
-  pub left-proper : Proper m (frontStage l w₁)
+  pub left-proper : Proper m (front_stage l w₁)
   left-proper =
-      let r = left-ready m (frontStage ks w) (proper-ready room.shaped proper) in
+      let r = left-ready m (front_stage ks w) (proper-ready room.shaped proper) in
       subst (Proper m) (sym t.stage) (record { some = r.grades; ordered = r.good.room; top = r.good.top })
 
-  pub left-planned : {how : Settings} {k : ℕ} {low : Condition} {r : Choice} {w' : List ℕ} → k ≡ cells l → IsLowest l low → Doing how m (frontStage l w₁) w₁ r w'
+  pub left-planned : {how : Settings} {k : ℕ} {low : Condition} {r : Choice} {w' : List ℕ} → k ≡ cells l → IsLowest l low → Doing how m (front_stage l w₁) w₁ r w'
       → Planned how m ks w (record { places = l; cells = k; low = low; choice = r }) w'
   left-planned e is d = record { places = places; own = e; lowest = is; does = does-same t.stage t.len d }
 
 -- none was
-module _ {how : Settings} {m : ℕ} {ks w : List ℕ} {n : ℕ} {low : Condition} (room : Room w ks n) (is : IsLowest ks low) (none : left (frontStage ks w) ≡ frontStage ks w) where
-  pub planned : {r : Choice} {w' : List ℕ} → Doing how m (frontStage ks w) w r w' → Planned how m ks w (record { places = ks; cells = n; low = low; choice = r }) w'
+module _ {how : Settings} {m : ℕ} {ks w : List ℕ} {n : ℕ} {low : Condition} (room : Room w ks n) (is : IsLowest ks low) (none : left (front_stage ks w) ≡ front_stage ks w) where
+  pub planned : {r : Choice} {w' : List ℕ} → Doing how m (front_stage ks w) w r w' → Planned how m ks w (record { places = ks; cells = n; low = low; choice = r }) w'
   planned d = record { places = ap (λ (z : Stage). z.ks) (sym none); own = room.own; lowest = is; does = does-same (sym none) refl d }
 
 -- what the masks of a stage tell
@@ -147,17 +147,17 @@ module _ {m : ℕ} {ks w : List ℕ} {n : ℕ} {low : Condition} (room : Room w 
       here : T (both_full w (cells ks) (lowest ks))
       here = subst T (sym (ap₂ (both_full w) (sym room.own) (sym is.number) ∙ e)) tt
 
-      both : (left (frontStage ks w) ≡ frontStage ks w) × (chosen how m (frontStage ks w) ≡ split)
+      both : (left (front_stage ks w) ≡ front_stage ks w) × (chosen how m (front_stage ks w) ≡ split)
       both =
           let c = cells ks in
-          full_split ks m (frontStage ks w).limits eight how (part w (2 * c) c) (part w (3 * c) c) (masks.masks Max) (masks.masks Min)
+          full_split ks m (front_stage ks w).limits eight how (part w (2 * c) c) (part w (3 * c) c) (masks.masks Max) (masks.masks Min)
           (passed (some_full c (part w (2 * c) c) (lowest ks)) (and_l (some_full c (part w (2 * c) c) (lowest ks)) (some_full c (part w (3 * c) c) (lowest ks)) here))
           (passed (some_full c (part w (3 * c) c) (lowest ks)) (and_r (some_full c (part w (2 * c) c) (lowest ks)) (some_full c (part w (3 * c) c) (lowest ks)) here))
 
   -- each condition is in some mask
-  pub seen_none : {s : ℕ} → Union n (part w (2 * n) n) every s → is_full_from low.number s ≡ true → left (frontStage ks w) ≡ frontStage ks w
+  pub seen_none : {s : ℕ} → Union n (part w (2 * n) n) every s → is_full_from low.number s ≡ true → left (front_stage ks w) ≡ front_stage ks w
   seen_none {s} u e =
-      seen_left ks m (frontStage ks w).limits eight (part w (2 * cells ks) (cells ks)) s (masks.masks Max)
+      seen_left ks m (front_stage ks w).limits eight (part w (2 * cells ks) (cells ks)) s (masks.masks Max)
       (subst (λ (k : ℕ). Union k (part w (2 * k) k) every s) room.own u) (ap (λ (k : ℕ). is_full_from k s) (sym is.number) ∙ e)
 
 -- whether the masks tell that the last condition stays
@@ -196,9 +196,9 @@ module _ {m : ℕ} {ks w : List ℕ} {n : ℕ} {low : Condition} {known : Bool} 
           ∙ not-true (none_has n (part w (2 * n) n) low.number)
           (passed (not (none_has n (part w (2 * n) n) low.number)) (and_r (ltb low.number 8) (not (none_has n (part w (2 * n) n) low.number)) there))
 
-      none : left (frontStage ks w) ≡ frontStage ks w
+      none : left (front_stage ks w) ≡ front_stage ks w
       none =
-          refused-left ks m (frontStage ks w).limits (part w (2 * cells ks) (cells ks))
+          refused-left ks m (front_stage ks w).limits (part w (2 * cells ks) (cells ks))
           ((k (passed known (and_l known (ltb low.number 8 && not (none_has n (part w (2 * n) n) low.number)) kept))).masks Max)
           (λ i p. ap (none_has (cells ks) (part w (2 * cells ks) (cells ks))) (only_lowest ks room.shaped.some one i p) ∙ refused)
 
@@ -253,7 +253,7 @@ module _ {ks w w' : List ℕ} (b : List ℕ) {r : Bool} where
   dropped_no e t = subst (λ (q : Bool). Turned left ks w (cond q b ks) w') e t
 
 -- the same stage at the front of another buffer
-pub planned-same : {how : Settings} {m : ℕ} {ks v w : List ℕ} {r : Plan} {w' : List ℕ} → frontStage ks v ≡ frontStage ks w → length v ≡ length w → Planned how m ks v r w' → Planned how m ks w r w'
+pub planned-same : {how : Settings} {m : ℕ} {ks v w : List ℕ} {r : Plan} {w' : List ℕ} → front_stage ks v ≡ front_stage ks w → length v ≡ length w → Planned how m ks v r w' → Planned how m ks w r w'
 planned-same e l p =
     record {
       places = p.places ∙ ap (λ (x : Stage). (left x).ks) e;

@@ -8,7 +8,7 @@ use Rattle.rules.specs.Stage.{Stage, left, split, joining, chosen}
 use Rattle.places.specs.Conditions.{IsLowest}
 use Rattle.tables.specs.Part.{part}
 use Rattle.masks.specs.Masks.{Known, none_has, some_full}
-use Rattle.stage_drops.specs.Working.{frontStage, Proper, ForBoth}
+use Rattle.stage_drops.specs.Working.{front_stage, Proper, ForBoth}
 use Rattle.stage_choice.specs.declared.Choice.{Choice}
 use Rattle.stage_choice.specs.declared.Choice.TheVariants.{Leaf, Split, Join}
 use Rattle.stage_plan.specs.declared.Plan.{Plan}
@@ -19,8 +19,8 @@ pub record Ordered (w : List ℕ) (n : ℕ) : Type 0 where
 
 -- the masks of the stage at the front are known, and the stage is as it was
 pub record Learnt (ks : List ℕ) (known : Bool) (w w' : List ℕ) : Type 0 where
-  pub masks : (m : ℕ) → Proper m (frontStage ks w) → (known ≡ true → Known m ks w) → Known m ks w'
-  pub stage : frontStage ks w' ≡ frontStage ks w
+  pub masks : (m : ℕ) → Proper m (front_stage ks w) → (known ≡ true → Known m ks w) → Known m ks w'
+  pub stage : front_stage ks w' ≡ front_stage ks w
   pub len : length w' ≡ length w
 
 -- some mask for max and some for min have every condition from k on
@@ -34,13 +34,13 @@ keeps_last w n i known = known && (ltb i 8 && not (none_has n (part w (2 * n) n)
 -- what a stage y with its conditions left finds in its buffer. With none left or one: its limits at the front
 pub record Leaves (y : Stage) (w : List ℕ) : Type 0 where
   pub narrow : width y.ks < 2
-  pub stage : frontStage y.ks w ≡ y
+  pub stage : front_stage y.ks w ≡ y
 
 -- one that splits: its limits and its masks
 pub record Splitting (how : Settings) (m : ℕ) (y : Stage) (w : List ℕ) : Type 0 where
   pub wide : 2 ≤ width y.ks
   pub is : chosen how m y ≡ split
-  pub stage : frontStage y.ks w ≡ y
+  pub stage : front_stage y.ks w ≡ y
   pub masks : Known m y.ks w
 
 -- one that joins: what its blocks are made from
@@ -60,10 +60,10 @@ pub record Doing (how : Settings) (m : ℕ) (y : Stage) (w : List ℕ) (r : Choi
 
 -- what the stage at the front of w does, with what is left of it
 pub record Planned (how : Settings) (m : ℕ) (ks w : List ℕ) (r : Plan) (w' : List ℕ) : Type 0 where
-  pub places : r.places ≡ (left (frontStage ks w)).ks
+  pub places : r.places ≡ (left (front_stage ks w)).ks
   pub own : r.cells ≡ cells r.places
   pub lowest : IsLowest r.places r.low
-  pub does : Doing how m (left (frontStage ks w)) w r.choice w'
+  pub does : Doing how m (left (front_stage ks w)) w r.choice w'
 
 -- the same whatever the settings and the number of grades
 pub record Ends (ks w : List ℕ) (r : Plan) (w' : List ℕ) : Type 0 where

@@ -1,12 +1,14 @@
 // Steps 1 to 4 of a stage: the conditions that are left, and what the stage does with them. A stage that a split
 // started has its masks from there, another makes them. The masks tell whether a condition may drop and, of most
 // stages that split, that they do, with no look at the limits.
+#![tactic(auto)]
+
 ghost use Rattle.std.specs.Prelude.{◌*◌, ◌≤◌, ◌<◌, ◌≡◌, true, length};
 ghost use Rattle.rules.specs.Cell.{width};
 ghost use Rattle.places.specs.Conditions.{IsLowest};
 ghost use Rattle.masks.specs.Masks.{Known};
-ghost use Rattle.stage_drops.specs.Working.{Room, frontStage, Proper};
-ghost use Rattle.rules.specs.Settings.{settingsOf};
+ghost use Rattle.stage_drops.specs.Working.{Room, front_stage, Proper};
+ghost use Rattle.rules.specs.Settings.{settings_of};
 ghost use Rattle.stage_plan.specs.Planning.{Ordered, Learnt, both_full, keeps_last, Doing, Ends, Planned};
 
 use masks::tests;
@@ -16,7 +18,7 @@ use rules::PLACES;
 use stage_choice::Choice;
 
 // What is left of a stage: its places, how many cells these have, the lowest condition, and what the stage does.
-#[derive(Drop)]
+#[derive(Clone, Copy)]
 pub struct Plan {
     pub places: [u8; PLACES],
     pub cells: usize,
@@ -48,8 +50,8 @@ fn both_full(w: &[u8], n: usize, k: usize) -> bool
 
 // What the stage at the front does, whose conditions are left.
 fn choose_left(w: &mut [u8], ks: [u8; PLACES], m: u8, n: usize, low: Condition, how: u8) -> Choice
-    requires { Room w.old ks n × Proper m (frontStage ks w.old) × IsLowest ks low }
-    ensures { Doing (settingsOf how) m (frontStage ks w.old) w.old result w.new }
+    requires { Room w.old ks n × Proper m (front_stage ks w.old) × IsLowest ks low }
+    ensures { Doing (settings_of how) m (front_stage ks w.old) w.old result w.new }
 {
     if low.values == n {
         return Choice::Leaf;
@@ -60,8 +62,8 @@ fn choose_left(w: &mut [u8], ks: [u8; PLACES], m: u8, n: usize, low: Condition, 
 
 // The plan of a stage from which conditions may drop.
 fn reduce(w: &mut [u8], ks: [u8; PLACES], m: u8, n: usize, how: u8) -> Plan
-    requires { Room w.old ks n × Proper m (frontStage ks w.old) }
-    ensures { Planned (settingsOf how) m ks w.old result w.new }
+    requires { Room w.old ks n × Proper m (front_stage ks w.old) }
+    ensures { Planned (settings_of how) m ks w.old result w.new }
 {
     let kept = stage_drops::drop_all(w, ks, n);
     let places = kept.places;
@@ -100,8 +102,8 @@ fn end(w: &mut [u8], ks: [u8; PLACES], n: usize, low: Condition) -> Plan
 
 // The plan of a stage that has two conditions or more and knows its masks.
 fn plan_known(w: &mut [u8], ks: [u8; PLACES], m: u8, n: usize, low: Condition, how: u8) -> Plan
-    requires { Room w.old ks n × Proper m (frontStage ks w.old) × Known m ks w.old × IsLowest ks low × (2 ≤ width ks) }
-    ensures { Planned (settingsOf how) m ks w.old result w.new }
+    requires { Room w.old ks n × Proper m (front_stage ks w.old) × Known m ks w.old × IsLowest ks low × (2 ≤ width ks) }
+    ensures { Planned (settings_of how) m ks w.old result w.new }
 {
     if both_full(w, n, low.number) {
         return Plan {
@@ -141,8 +143,8 @@ fn keeps_last(w: &[u8], n: usize, low: Condition, known: bool) -> bool
 // The plan of the stage over ks, of n cells, whose limits are at the front of the work buffer and, where they are
 // known, its masks behind them. A split finds both there; a join finds what its blocks are made from.
 pub fn plan_stage(w: &mut [u8], ks: [u8; PLACES], m: u8, n: usize, known: bool, how: u8) -> Plan
-    requires { Room w.old ks n × Proper m (frontStage ks w.old) × (known ≡ true → Known m ks w.old) }
-    ensures { Planned (settingsOf how) m ks w.old result w.new }
+    requires { Room w.old ks n × Proper m (front_stage ks w.old) × (known ≡ true → Known m ks w.old) }
+    ensures { Planned (settings_of how) m ks w.old result w.new }
 {
     let low = sets::lowest(ks);
     if low.values == n {

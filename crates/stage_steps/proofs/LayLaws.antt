@@ -1,10 +1,10 @@
 -- The tables of the cells with one value laid, one behind the other, and the function of these cells given back.
 use Prim.Native.Nat.{ℕ, suc, ◌+◌, ◌-◌, ◌*◌, ◌/◌, ◌≤◌, ◌<◌}
-use mathlib.Core.Path.{◌≡◌, refl, sym, ◌∙◌, ap, ap₂, subst}
+use mathlib.Core.Path.{◌≡◌, refl, sym, ◌∙◌, ap, subst}
 use mathlib.Core.Bool.{Bool, true, false, ◌||◌}
 use mathlib.Core.List.{List}
 use mathlib.Core.Logic.{inl, inr}
-use native.Mathlib.Nat.{mul_comm, mul-le-mul_right, suc-mul}
+use native.Mathlib.Nat.{mul-le-mul_right, suc-mul}
 use native.Mathlib.Omega.{arith}
 use borrow.Author.Count.{below_more}
 use lib.Bits.{bit_or}
@@ -15,8 +15,8 @@ use Rattle.laws.proofs.TestLaws.{failed}
 use Rattle.laws.proofs.TableLaws.{length-tabulate_from, at-tabulate}
 use Rattle.laws.proofs.SetLaws.{has-or, singleton-has}
 use Rattle.tables.specs.Part.{part, Laid, Apart, Two}
-use Rattle.tables.proofs.PartLaws.{part_at, part_same, laid-part}
-use Rattle.moves.specs.Row.{in_row, Rows, Given}
+use Rattle.tables.proofs.PartLaws.{part_same, laid-part}
+use Rattle.moves.specs.Row.{Given}
 use Rattle.moves.proofs.RowLaws.{row_number, given_room, given_row, given_both}
 use Rattle.masks.specs.Masks.{Beside}
 use Rattle.stage_steps.specs.Rows.{value_cells, LayRoom, RowsLaid, GiveRoom}

@@ -102,8 +102,8 @@ module _ {w : List ℕ} {n stp apart values c k : ℕ} (p : KeepRoom w n stp apa
     pub keep_below : k < apart
     keep_below = let h = p.below in let g = keep_gap in omega arith
 
-    pub keep-room : Apart w (8 * c) n (4 * c) (apart * n)
-    keep-room =
+    pub keep_room : Apart w (8 * c) n (4 * c) (apart * n)
+    keep_room =
         let o = p.own in
         let h = p.work in
         let g = ap (λ (x : ℕ). x * n) keep_gap in

@@ -10,7 +10,7 @@ use places::sets::Condition;
 use rules::{PLACES, SplitOn};
 
 // A condition as tables are split on it: its number, how many values it has, and how many cells a row of one value has.
-#[derive(Drop)]
+#[derive(Clone, Copy)]
 pub struct Cut {
     pub number: usize,
     pub values: usize,

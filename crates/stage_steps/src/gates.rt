@@ -6,7 +6,7 @@ use network_records::put_gate;
 use rules::Gate;
 
 // How far a network reaches: the record behind its last one, and the depth of gates under its last one.
-#[derive(Drop)]
+#[derive(Clone, Copy)]
 pub struct Extent {
     pub next: usize,
     pub depth: usize,

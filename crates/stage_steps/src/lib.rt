@@ -1,4 +1,6 @@
 // The steps of a stage that start no stage: what it writes, and its function over its own conditions.
+#![tactic(auto)]
+
 pub mod cuts;
 pub mod ends;
 pub mod gates;

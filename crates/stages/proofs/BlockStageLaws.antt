@@ -36,7 +36,7 @@ use Rattle.stage_steps.proofs.WantLaws.{wanted-both, wanted-length}
 use Rattle.weak_joins.proofs.OpenLaws.{part-below}
 use Rattle.stages.specs.Staging.{Starts, Written, Behind, Joins}
 use Rattle.stages.proofs.LentLaws.{rest, Back, back-front}
-use Rattle.stages.proofs.ChildLaws.{proper-ready, written_as, smaller_behind, stageRank, joinRank, rank-fewer, Lent, behind, child-stage, child_starts, child-back, child-function}
+use Rattle.stages.proofs.ChildLaws.{proper-ready, written_as, smaller_behind, stage_rank, join_rank, rank-fewer, Lent, behind, child-stage, child_starts, child-back, child-function}
 
 -- whatever is asked where a flag is set, of one that is not: a block's masks are not known
 pub unknown : {P : Type 0} → false ≡ true → P
@@ -94,13 +94,13 @@ module _ {how : Settings} {gate : Gate} {m : ℕ} {ks : List ℕ} {l : Limits} {
     first-stage : stage_at a (rest (8 * c) w₁) 0 (cells a) ≡ A
     first-stage = child-stage first-lent (f.stage s l j.tables)
 
-    pub first-starts : {n : ℕ} → n ≡ cells a → Starts how m a n false may (rest (8 * c) w₁) r
-    first-starts e = child_starts first-lent A.limits e first-stage (first-ready m gate s t y ready j.exists) unknown (let i = j.numbers in omega arith)
+    pub first_starts : {n : ℕ} → n ≡ cells a → Starts how m a n false may (rest (8 * c) w₁) r
+    first_starts e = child_starts first-lent A.limits e first-stage (first-ready m gate s t y ready j.exists) unknown (let i = j.numbers in omega arith)
 
-    pub first-falls : stageRank may a < joinRank may ks
-    first-falls = go may j.first-fewer
+    pub first_falls : stage_rank may a < join_rank may ks
+    first_falls = go may j.first-fewer
       where
-        go : (q : Bool) → (q ≡ true → width (without t ks) < width ks) → stageRank q a < joinRank q ks
+        go : (q : Bool) → (q ≡ true → width (without t ks) < width ks) → stage_rank q a < join_rank q ks
         go true h = let e = ap width f.places in let g = rank-fewer true a ks (omega (arith, h refl)) in omega arith
         go false h = let e = ap width f.places in let g = without_le t ks in omega arith
 
@@ -167,14 +167,14 @@ module _ {how : Settings} {gate : Gate} {m : ℕ} {ks : List ℕ} {l : Limits} {
         second-stage : stage_at b (rest (8 * c) w₃) 0 (cells b) ≡ B
         second-stage = child-stage second-lent (z.stage t l second-tables ∙ ap (second_stage m gate s t y) given)
 
-        pub second-starts : {n : ℕ} → n ≡ cells b → Starts how m b n false true (rest (8 * c) w₃) e₁.next
-        second-starts e =
+        pub second_starts : {n : ℕ} → n ≡ cells b → Starts how m b n false true (rest (8 * c) w₃) e₁.next
+        second_starts e =
             let i = j.numbers in
             let p = first_done.put.extent.next in
             child_starts second-lent B.limits e second-stage (second_of how m gate s t y ready j.exists may) unknown (omega arith)
 
-        pub second-falls : stageRank true b < joinRank may ks
-        second-falls = let e = ap width z.places in let g = rank-fewer true b ks (let h = j.second.fewer in omega arith) in omega arith
+        pub second_falls : stage_rank true b < join_rank may ks
+        second_falls = let e = ap width z.places in let g = rank-fewer true b ks (let h = j.second.fewer in omega arith) in omega arith
 
         pub second_back : {want : Bool} {v' net₂ : List ℕ} {e₂ : Extent} → Written b (tree_of how m true (stage_at b (rest (8 * c) w₃) 0 (cells b))) 0 want (rest (8 * c) w₃) net₁ e₁.next e₂ v' net₂
             → Back (8 * c) w₃ v' (put_mid (8 * c) (length w₃ - 8 * c) w₃ v')
@@ -186,8 +186,8 @@ module _ {how : Settings} {gate : Gate} {m : ℕ} {ks : List ℕ} {l : Limits} {
           second-done : Written B.ks (tree_of how m true B) 0 want (rest (8 * c) w₃) net₁ e₁.next e₂ v' net₂
           second-done = written_as how m true B second-stage x'
 
-          pub close-room : JoinedRoom w₄ ks b c × GateRoom e₁ e₂
-          close-room =
+          pub close_room : JoinedRoom w₄ ks b c × GateRoom e₁ e₂
+          close_room =
               let h = behind (lent b w₄ second_behind z.places (k'.len ∙ whole_length)) in
               let o = j.left.own.own in (
                 record {

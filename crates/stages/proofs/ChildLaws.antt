@@ -68,24 +68,24 @@ smaller_behind d l s =
 
 -- How the cycle ends: what is started has a lower number than what starts it. A stage that may take a weak join, and the functions between
 -- it and that weak join, have numbers above those of a stage with as many conditions that may not
-abbrev pub stageRank : Bool → List ℕ → ℕ
-stageRank may ks = 16 * width ks + pick may 15 7
+abbrev pub stage_rank : Bool → List ℕ → ℕ
+stage_rank may ks = 16 * width ks + pick may 15 7
 
-abbrev pub divideRank : Bool → List ℕ → ℕ
-divideRank may ks = 16 * width ks + pick may 14 6
+abbrev pub divide_rank : Bool → List ℕ → ℕ
+divide_rank may ks = 16 * width ks + pick may 14 6
 
-abbrev pub joinRank : Bool → List ℕ → ℕ
-joinRank may ks = 16 * width ks + pick may 0 8
+abbrev pub join_rank : Bool → List ℕ → ℕ
+join_rank may ks = 16 * width ks + pick may 0 8
 
-pub rank-fewer : (may : Bool) (a ks : List ℕ) → width a < width ks → stageRank may a < 16 * width ks
+pub rank-fewer : (may : Bool) (a ks : List ℕ) → width a < width ks → stage_rank may a < 16 * width ks
 rank-fewer true a ks h = omega arith
 rank-fewer false a ks h = omega arith
 
-pub divide-some : (may : Bool) (ks : List ℕ) → 16 * width ks + 1 < divideRank may ks
-divide-some true ks = omega arith
-divide-some false ks = omega arith
+pub divide_some : (may : Bool) (ks : List ℕ) → 16 * width ks + 1 < divide_rank may ks
+divide_some true ks = omega arith
+divide_some false ks = omega arith
 
-pub stage-some : (may : Bool) (a ks : List ℕ) → width a ≤ width ks → 16 * width a < stageRank may ks
+pub stage-some : (may : Bool) (a ks : List ℕ) → width a ≤ width ks → 16 * width a < stage_rank may ks
 stage-some true a ks h = omega arith
 stage-some false a ks h = omega arith
 

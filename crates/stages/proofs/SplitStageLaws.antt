@@ -33,7 +33,7 @@ use Rattle.moves.specs.Row.{in_row, Rows, Scattered}
 use Rattle.masks.specs.Masks.{Beside, Known}
 use Rattle.masks.proofs.CofactorLaws.{cofactored, cofactored_as}
 use Rattle.masks.proofs.KnownLaws.{known_split}
-use Rattle.stage_drops.specs.Working.{frontStage}
+use Rattle.stage_drops.specs.Working.{front_stage}
 use Rattle.stage_steps.specs.declared.gates.Extent.{Extent}
 use Rattle.stage_steps.specs.declared.cuts.Cut.{Cut}
 use Rattle.stage_steps.specs.Cuts.{IsCut}
@@ -45,7 +45,7 @@ use Rattle.stage_steps.proofs.WantLaws.{wanted-both, wanted-length}
 use Rattle.stage_steps.proofs.ExtentLaws.{gate-room, gate-extent, tree-gate}
 use Rattle.stages.specs.Staging.{Starts, Written, Smaller, Splits, Divided}
 use Rattle.stages.proofs.LentLaws.{rest, rest_part, Back}
-use Rattle.stages.proofs.ChildLaws.{proper-ready, written_as, smaller_behind, stageRank, rank-fewer, Lent, child-stage, child_starts, child-back, child-function}
+use Rattle.stages.proofs.ChildLaws.{proper-ready, written_as, smaller_behind, stage_rank, rank-fewer, Lent, child-stage, child_starts, child-back, child-function}
 
 -- the tree of the values up to k, and of those before it
 module _ (how : Settings) (m a : ℕ) (x : Stage) where
@@ -123,10 +123,10 @@ pub record Axis (ks : List ℕ) (a : ℕ) (b : List ℕ) (n stp values : ℕ) : 
 
 -- the values below k are done: the limits and the masks stay, and their functions are in part 4 where they are wanted
 pub record Turn (how : Settings) (m a : ℕ) (ks : List ℕ) (c : ℕ) (want : Bool) (w₀ net₀ : List ℕ) (r k : ℕ) (total : Extent) (w net : List ℕ) : Type 0 where
-  pub so_far : SoFar how m a (frontStage ks w₀) net₀ r k total net
+  pub so_far : SoFar how m a (front_stage ks w₀) net₀ r k total net
   pub front : (j : ℕ) → j < 4 * c → at w j ≡ at w₀ j
   pub done : want ≡ true → (q j : ℕ) → q < k → j < cells (without (singleton a) ks)
-      → at w (4 * c + cofactor_cell ks a q j) ≡ at (computed (without (singleton a) ks) (tree_of how m true (cofactor_stage a q (frontStage ks w₀)))) j
+      → at w (4 * c + cofactor_cell ks a q j) ≡ at (computed (without (singleton a) ks) (tree_of how m true (cofactor_stage a q (front_stage ks w₀)))) j
   pub len : length w ≡ length w₀
 
 pub turn-none : (how : Settings) (m a : ℕ) (ks : List ℕ) (c : ℕ) (want : Bool) (w net : List ℕ) (r : ℕ) → Turn how m a ks c want w net r 0 (record { next = r; depth = 0 }) w net
@@ -153,13 +153,13 @@ module _ {ks : List ℕ} {a : ℕ} {on : Cut} (is : IsCut ks a on) where
   pub found-splits : {how : Settings} {m c : ℕ} {w : List ℕ} {r : ℕ} → Splits how m a ks c w r → Splits how m on.number ks c w r
   found-splits {how} {m} {c} {w} {r} = subst (λ (i : ℕ). Splits how m i ks c w r) (sym is.number)
 
-  pub found-divided : {how : Settings} {m c : ℕ} {want : Bool} {w net : List ℕ} {r : ℕ} {of : Extent} {w' net' : List ℕ}
+  pub found_divided : {how : Settings} {m c : ℕ} {want : Bool} {w net : List ℕ} {r : ℕ} {of : Extent} {w' net' : List ℕ}
       → Divided how m on.number ks c want w net r of w' net' → Divided how m a ks c want w net r of w' net'
-  found-divided {how} {m} {c} {want} {w} {net} {r} {of} {w'} {net'} = subst (λ (i : ℕ). Divided how m i ks c want w net r of w' net') is.number
+  found_divided {how} {m} {c} {want} {w} {net} {r} {of} {w'} {net'} = subst (λ (i : ℕ). Divided how m i ks c want w net r of w' net') is.number
 
 module _ {how : Settings} {m a : ℕ} {ks : List ℕ} {c : ℕ} {w₀ : List ℕ} {r : ℕ} (h : Splits how m a ks c w₀ r) where
   abbrev x : Stage
-  x = frontStage ks w₀
+  x = front_stage ks w₀
 
   abbrev b : List ℕ
   b = without (singleton a) ks
@@ -319,11 +319,11 @@ module _ {how : Settings} {m a : ℕ} {ks : List ℕ} {c : ℕ} {w₀ : List ℕ
                 let p = small.half in
                 rest_part (8 * c) (q * cells b) (cells b) w₁ (omega arith)
 
-        pub value-falls : stageRank true b₀ < 16 * width ks
-        value-falls = rank-fewer true b₀ ks (let e = ap width z.places in let f = small.fewer in omega arith)
+        pub value_falls : stage_rank true b₀ < 16 * width ks
+        value_falls = rank-fewer true b₀ ks (let e = ap width z.places in let f = small.fewer in omega arith)
 
-        pub value-starts : Starts how m b₀ n true true (rest (8 * c) w₁) literal.next
-        value-starts =
+        pub value_starts : Starts how m b₀ n true true (rest (8 * c) w₁) literal.next
+        value_starts =
             child_starts value_lent (cofactor_stage a k x).limits z.count value-stage (cofactor-ready x ready.pos a k m ready hk) (λ e. value_known)
             (let d = part-few in let f = g.put.extent.next in omega arith)
 
@@ -340,15 +340,15 @@ module _ {how : Settings} {m a : ℕ} {ks : List ℕ} {c : ℕ} {w₀ : List ℕ
           pub value-back : Back (8 * c) w₁ v' (put_mid (8 * c) (length w₁ - 8 * c) w₁ v')
           value-back = child-back value_lent y.len
 
-          pub gates-room : EndRoom k total literal of
-          gates-room = end-room how m a x u.so_far selected child-done.put few
+          pub gates_room : EndRoom k total literal of
+          gates_room = end-room how m a x u.so_far selected child-done.put few
 
           module _ {w₂ : List ℕ} (back : Back (8 * c) w₁ v' w₂) where
             length_two : length w₂ ≡ length w₀
             length_two = back.len ∙ length-one
 
-            pub value-keep : KeepRoom w₂ n stp (stp * values) values c k
-            value-keep =
+            pub value_keep : KeepRoom w₂ n stp (stp * values) values c k
+            value_keep =
                 let o = h.whole.left.own.own in
                 let s = h.whole.left.work in
                 let d = length_two in
@@ -443,14 +443,14 @@ collected ks {c} {w = w} {w'} o s l h q =
 -- so that of a split
 module _ {how : Settings} {m a : ℕ} {ks : List ℕ} {c : ℕ} {want : Bool} {w₀ net₀ : List ℕ} {r : ℕ} {total : Extent} {w net : List ℕ} (h : Splits how m a ks c w₀ r)
     (d : Divided how m a ks c want w₀ net₀ r total w net) where
-  pub collect-room : 5 * c ≤ length w
-  collect-room = let s = h.whole.left.work in let e = d.written.len in omega arith
+  pub collect_room : 5 * c ≤ length w
+  collect_room = let s = h.whole.left.work in let e = d.written.len in omega arith
 
   pub split_done : {w' : List ℕ} → Wanted want (Laid w 0 (part w (4 * c) c) c) w w'
-      → Written ks (split_tree m (tree_of how m) a (frontStage ks w₀)) 0 want w₀ net₀ r total w' net
+      → Written ks (split_tree m (tree_of how m) a (front_stage ks w₀)) 0 want w₀ net₀ r total w' net
   split_done l =
       record {
         put = d.written.put;
-        function = collected ks h.whole.left.own.own collect-room l d.written.function;
+        function = collected ks h.whole.left.own.own collect_room l d.written.function;
         len = wanted-length l (λ s. s.len) ∙ d.written.len;
       }

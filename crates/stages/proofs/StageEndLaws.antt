@@ -31,7 +31,7 @@ use Rattle.masks.specs.Masks.{Known}
 use Rattle.grouping.specs.declared.Sets.{Sets}
 use Rattle.stage_choice.specs.declared.Choice.{Choice}
 use Rattle.stage_choice.specs.declared.Choice.TheVariants.{Leaf, Split, Join}
-use Rattle.stage_drops.specs.Working.{Room, frontStage, Proper}
+use Rattle.stage_drops.specs.Working.{Room, front_stage, Proper}
 use Rattle.stage_drops.proofs.DropLaws.{as_shaped}
 use Rattle.stage_plan.specs.declared.Plan.{Plan}
 use Rattle.stage_plan.specs.Planning.{Leaves, Splitting, Joining, Finds, Planned}
@@ -43,7 +43,7 @@ use Rattle.stage_steps.specs.Wanting.{Wanted}
 use Rattle.stage_steps.proofs.EndLaws.{leaf-tree}
 use Rattle.stage_steps.proofs.WantLaws.{wanted-length}
 use Rattle.stages.specs.Staging.{Numbered, Starts, Written, Left, Smaller, Joins, Joined, tried_if, Divides}
-use Rattle.stages.proofs.ChildLaws.{proper-ready, ready-proper, smaller, smaller_behind, stageRank, divideRank, joinRank, stage-some}
+use Rattle.stages.proofs.ChildLaws.{proper-ready, ready-proper, smaller, smaller_behind, stage_rank, divide_rank, join_rank, stage-some}
 
 few-sub : (b a : List ℕ) → Sub b a → ((i : ℕ) → card a i ≤ 8) → (i : ℕ) → card b i ≤ 8
 few-sub b a s h i =
@@ -62,7 +62,7 @@ written-here {ks} {t} {want} {w} {net} {r} {e} {e₁} {w'} {w₁} {net'} {net₁
 
 module _ {how : Settings} {m : ℕ} {ks : List ℕ} {c : ℕ} {known may : Bool} {w : List ℕ} {r : ℕ} (s : Starts how m ks c known may w r) where
   abbrev x : Stage
-  x = frontStage ks w
+  x = front_stage ks w
 
   abbrev y : Stage
   y = left x
@@ -73,8 +73,8 @@ module _ {how : Settings} {m : ℕ} {ks : List ℕ} {c : ℕ} {known may : Bool}
   shrunk : Shrunk x y
   shrunk = left_shrunk x ready.pos
 
-  pub plan-room : Room w ks c × Proper m (frontStage ks w) × (known ≡ true → Known m ks w)
-  plan-room = let q = s.work in let e = s.own in (record { shaped = s.shaped; own = e; room = omega arith }, s.proper, s.masks)
+  pub plan_room : Room w ks c × Proper m (front_stage ks w) × (known ≡ true → Known m ks w)
+  plan_room = let q = s.work in let e = s.own in (record { shaped = s.shaped; own = e; room = omega arith }, s.proper, s.masks)
 
   module _ {o : Plan} {w₁ : List ℕ} (p : Planned how m ks w o w₁) where
     abbrev l : List ℕ
@@ -95,8 +95,8 @@ module _ {how : Settings} {m : ℕ} {ks : List ℕ} {c : ℕ} {known may : Bool}
     pub fewer : width l ≤ width ks
     fewer = let e = ap width places in let q = shrunk.fewer in omega arith
 
-    pub spread-room : {w₂ : List ℕ} → length w₂ ≡ length w₁ → SpreadRoom w₂ ks l o.cells c
-    spread-room e =
+    pub spread_room : {w₂ : List ℕ} → length w₂ ≡ length w₁ → SpreadRoom w₂ ks l o.cells c
+    spread_room e =
         let q = s.work in
         let a = s.own in
         let f = p.does.len in
@@ -116,17 +116,17 @@ module _ {how : Settings} {m : ℕ} {ks : List ℕ} {c : ℕ} {known may : Bool}
     pub still : (how.weak && (may || ltb o.cells c)) ≡ (how.weak && may_left may x)
     still = ap (λ (b : Bool). how.weak && b) (ap₂ (λ (a b : ℕ). may || ltb a b) (p.own ∙ ap cells places) s.own ∙ sym (may_cells may x ready.pos))
 
-    pub divide-falls : {q : Bool} → q ≡ (how.weak && may_left may x) → divideRank q l < stageRank may ks
-    divide-falls {q} e = go may q e
+    pub divide_falls : {q : Bool} → q ≡ (how.weak && may_left may x) → divide_rank q l < stage_rank may ks
+    divide_falls {q} e = go may q e
       where
-        go : (b q : Bool) → q ≡ (how.weak && may_left b x) → divideRank q l < stageRank b ks
+        go : (b q : Bool) → q ≡ (how.weak && may_left b x) → divide_rank q l < stage_rank b ks
         go true true e = let f = fewer in omega arith
         go true false e = let f = fewer in omega arith
         go false true e = let f = ltb→lt (width y.ks) (width ks) (and_r how.weak (may_left false x) (subst T e tt)) in let g = ap width places in omega arith
         go false false e = let f = fewer in omega arith
 
-    pub join-falls : joinRank true l < stageRank may ks
-    join-falls = let f = stage-some may l ks fewer in omega arith
+    pub join_falls : join_rank true l < stage_rank may ks
+    join_falls = let f = stage-some may l ks fewer in omega arith
 
     -- the function of the conditions left, over all of the stage's own
     pub whole : {want : Bool} {w₂ w₃ net net' : List ℕ} {e : Extent} → Written l (tree_of how m may x) 0 want w₁ net r e w₂ net' → Wanted want (SpreadLaid ks l w₂) w₂ w₃
@@ -144,8 +144,8 @@ module _ {how : Settings} {m : ℕ} {ks : List ℕ} {c : ℕ} {known may : Bool}
       leaves : Leaves y w₁
       leaves = subst (λ (q : Choice). Finds how m y q w₁) e p.does.finds
 
-      is-left : frontStage l w₁ ≡ y
-      is-left = ap (λ (k : List ℕ). frontStage k w₁) places ∙ leaves.stage
+      is-left : front_stage l w₁ ≡ y
+      is-left = ap (λ (k : List ℕ). front_stage k w₁) places ∙ leaves.stage
 
       narrow : width l < 2
       narrow = let f = ap width places in let n = leaves.narrow in omega arith
@@ -212,10 +212,10 @@ module _ {how : Settings} {m : ℕ} {ks : List ℕ} {c : ℕ} {known may : Bool}
       splitting : Splitting how m y w₁
       splitting = subst (λ (q : Choice). Finds how m y q w₁) e p.does.finds
 
-      same : frontStage l w₁ ≡ y
-      same = ap (λ (k : List ℕ). frontStage k w₁) places ∙ splitting.stage
+      same : front_stage l w₁ ≡ y
+      same = ap (λ (k : List ℕ). front_stage k w₁) places ∙ splitting.stage
 
-      divide_tree : tree_of how m may x ≡ fewest m (tree_of how m) (tried_if m (how.weak && may_left may x) (frontStage l w₁)) (split_condition how.splits l) (frontStage l w₁)
+      divide_tree : tree_of how m may x ≡ fewest m (tree_of how m) (tried_if m (how.weak && may_left may x) (front_stage l w₁)) (split_condition how.splits l) (front_stage l w₁)
       divide_tree =
           tree_is splitting.wide split splitting.is
           ∙ ap (λ (z : Stage). fewest m (tree_of how m) (tried_if m (how.weak && may_left may x) z) (split_condition how.splits z.ks) z) (sym same)
@@ -239,21 +239,21 @@ module _ {how : Settings} {m : ℕ} {ks : List ℕ} {c : ℕ} {known may : Bool}
           record {
             whole =
                 record {
-                  left = left_here splitting.wide (frontStage l w₁) (sym same);
+                  left = left_here splitting.wide (front_stage l w₁) (sym same);
                   masks = subst (λ (k : List ℕ). Known m k w₁) (sym places) splitting.masks;
                 };
             cut = split-present how.splits l (let e = ap width places in let h = splitting.wide in omega arith);
             more = λ h. weak-room (passed (may_left may x) (and_r how.weak (may_left may x) (subst T (sym h ∙ g) tt)));
             numbers =
-                subst (λ (b : Bool). Numbered (fewest m (tree_of how m) (tried_if m b (frontStage l w₁)) (split_condition how.splits l) (frontStage l w₁)) r) (sym g)
+                subst (λ (b : Bool). Numbered (fewest m (tree_of how m) (tried_if m b (front_stage l w₁)) (split_condition how.splits l) (front_stage l w₁)) r) (sym g)
                 (subst (λ (t : Tree). Numbered t r) divide_tree s.numbers);
           }
 
-      pub divide-done : {q : Bool} → q ≡ (how.weak && may_left may x) → {want : Bool} {w₂ net net' : List ℕ} {i : Extent}
-          → Written l (fewest m (tree_of how m) (tried_if m q (frontStage l w₁)) (split_condition how.splits l) (frontStage l w₁)) 0 want w₁ net r i w₂ net'
+      pub divide_done : {q : Bool} → q ≡ (how.weak && may_left may x) → {want : Bool} {w₂ net net' : List ℕ} {i : Extent}
+          → Written l (fewest m (tree_of how m) (tried_if m q (front_stage l w₁)) (split_condition how.splits l) (front_stage l w₁)) 0 want w₁ net r i w₂ net'
           → Written l (tree_of how m may x) 0 want w₁ net r i w₂ net'
-      divide-done g h =
-          written-tree (ap (λ (b : Bool). fewest m (tree_of how m) (tried_if m b (frontStage l w₁)) (split_condition how.splits l) (frontStage l w₁)) g ∙ sym divide_tree) h
+      divide_done g h =
+          written-tree (ap (λ (b : Bool). fewest m (tree_of how m) (tried_if m b (front_stage l w₁)) (split_condition how.splits l) (front_stage l w₁)) g ∙ sym divide_tree) h
 
     module _ {by : Gate} {of : Sets} (e : o.choice ≡ Join by of) where
       joining-here : Joining how by m y of.s of.t w₁
@@ -291,6 +291,6 @@ module _ {how : Settings} {m : ℕ} {ks : List ℕ} {c : ℕ} {known may : Bool}
       pub joins : Joins how by m (stage_of l y.limits) of.s of.t true o.cells w₁ r
       joins = subst (λ (z : Stage). Joins how by m z of.s of.t true o.cells w₁ r) (sym as_left) joins-left
 
-      pub join-done : {want : Bool} {w₂ net net' : List ℕ} {i : Extent} → Joined how by m l of.s of.t true o.cells want w₁ net r i w₂ net'
+      pub join_done : {want : Bool} {w₂ net net' : List ℕ} {i : Extent} → Joined how by m l of.s of.t true o.cells want w₁ net r i w₂ net'
           → Written l (tree_of how m may x) 0 want w₁ net r i w₂ net'
-      join-done h = written-tree (sym join_tree_lem) (h.whole y.limits joins)
+      join_done h = written-tree (sym join_tree_lem) (h.whole y.limits joins)

@@ -25,7 +25,7 @@ use Rattle.tables.specs.Part.{part}
 use Rattle.tables.proofs.PartLaws.{part_at, part_same}
 use Rattle.masks.specs.Masks.{Known}
 use Rattle.network_records.specs.Putting.{Put}
-use Rattle.stage_drops.specs.Working.{Room, frontStage, Proper, ForBoth}
+use Rattle.stage_drops.specs.Working.{Room, front_stage, Proper, ForBoth}
 use Rattle.stage_steps.specs.declared.gates.Extent.{Extent}
 use Rattle.stage_steps.specs.Extents.{ExtentOf, TreePut}
 use Rattle.stage_steps.proofs.WantLaws.{wanted-length}
@@ -35,7 +35,7 @@ use Rattle.weak_joins.specs.Trying.{weak_of}
 use Rattle.weak_joins.specs.Opening.{Turned, Opened, Reopened, CanRestore, Restored}
 use Rattle.weak_joins.specs.Keeping.{Kept}
 use Rattle.stages.specs.Staging.{Written, Numbered, Left, Joins, Joined, Splits, Divided, Tries, Counted, tried_if, Divides}
-use Rattle.stages.proofs.ChildLaws.{proper-ready, smaller, divideRank}
+use Rattle.stages.proofs.ChildLaws.{proper-ready, smaller, divide_rank}
 use Rattle.stages.proofs.BlockStageLaws.{unknown}
 use Rattle.stages.proofs.SplitStageLaws.{collected}
 
@@ -58,14 +58,14 @@ written_from : {ks : List ℕ} {t : Tree} {to : ℕ} {want : Bool} {w v net : Li
 written_from q h = record { put = h.put; function = h.function; len = h.len ∙ q }
 
 -- the sets of a weak join
-pub joins-alone : (i : ℕ) {how : Settings} {gate : Gate} {m : ℕ} {y : Stage} {s t c : ℕ} {w : List ℕ} {r : ℕ} → s ≡ singleton i → t ≡ 0 → Joins how gate m y (singleton i) 0 false c w r
+pub joins_alone : (i : ℕ) {how : Settings} {gate : Gate} {m : ℕ} {y : Stage} {s t c : ℕ} {w : List ℕ} {r : ℕ} → s ≡ singleton i → t ≡ 0 → Joins how gate m y (singleton i) 0 false c w r
     → Joins how gate m y s t false c w r
-joins-alone i {how} {gate} {m} {y} {s} {t} {c} {w} {r} e f j =
+joins_alone i {how} {gate} {m} {y} {s} {t} {c} {w} {r} e f j =
     subst (λ (k : ℕ). Joins how gate m y k t false c w r) (sym e) (subst (λ (k : ℕ). Joins how gate m y (singleton i) k false c w r) (sym f) j)
 
-pub joined-alone : (i : ℕ) {how : Settings} {gate : Gate} {m : ℕ} {ks : List ℕ} {s t c : ℕ} {want : Bool} {w net : List ℕ} {r : ℕ} {e : Extent} {w' net' : List ℕ} → s ≡ singleton i → t ≡ 0
+pub joined_alone : (i : ℕ) {how : Settings} {gate : Gate} {m : ℕ} {ks : List ℕ} {s t c : ℕ} {want : Bool} {w net : List ℕ} {r : ℕ} {e : Extent} {w' net' : List ℕ} → s ≡ singleton i → t ≡ 0
     → Joined how gate m ks s t false c want w net r e w' net' → Joined how gate m ks (singleton i) 0 false c want w net r e w' net'
-joined-alone i {how} {gate} {m} {ks} {s} {t} {c} {want} {w} {net} {r} {e} {w'} {net'} p q j =
+joined_alone i {how} {gate} {m} {ks} {s} {t} {c} {want} {w} {net} {r} {e} {w'} {net'} p q j =
     subst (λ (k : ℕ). Joined how gate m ks (singleton i) k false c want w net r e w' net') q (subst (λ (k : ℕ). Joined how gate m ks k t false c want w net r e w' net') p j)
 
 -- the tree that is kept, by its records
@@ -84,7 +84,7 @@ module _ (how : Settings) (m a : ℕ) (gate : Gate) (i : ℕ) (x : Stage) where
 
 module _ {how : Settings} {m a : ℕ} {ks : List ℕ} {i c : ℕ} {w₀ : List ℕ} (h : Tries how m a ks i c w₀) where
   abbrev x : Stage
-  x = frontStage ks w₀
+  x = front_stage ks w₀
 
   ready : Ready m x
   ready = proper-ready h.whole.left.own.shaped.some h.whole.left.proper
@@ -122,7 +122,7 @@ module _ {how : Settings} {m a : ℕ} {ks : List ℕ} {i c : ℕ} {w₀ : List �
     len-one : length w₁ ≡ length w₀
     len-one = d.written.len
 
-    same-stage : frontStage ks w₁ ≡ x
+    same-stage : front_stage ks w₁ ≡ x
     same-stage =
         let o = h.whole.left.own.own in
         let q = h.work in
@@ -133,8 +133,8 @@ module _ {how : Settings} {m a : ℕ} {ks : List ℕ} {i c : ℕ} {w₀ : List �
         limited : List ℕ → List ℕ → Stage
         limited l u = record { ks = ks; limits = record { lower = l; upper = u } }
 
-    pub open-room : Room w₁ ks c × Proper m (frontStage ks w₁) × (i < 8)
-    open-room = ((left_at len-one).own, subst (Proper m) (sym same-stage) h.whole.left.proper, h.number)
+    pub open_room : Room w₁ ks c × Proper m (front_stage ks w₁) × (i < 8)
+    open_room = ((left_at len-one).own, subst (Proper m) (sym same-stage) h.whole.left.proper, h.number)
 
     module _ {gate : Gate} {w₂ : List ℕ} (o : Opened gate m ks i c w₁ w₂) where
       len-two : length w₂ ≡ length w₀
@@ -180,8 +180,8 @@ module _ {how : Settings} {m a : ℕ} {ks : List ℕ} {i c : ℕ} {w₀ : List �
     split-is l = keeps-split how m a gate i x (let e = k.weak.next in let b = k.split.next in omega arith)
 
     -- nothing is written
-    pub keep-room : (r : ℕ) → Numbered (fewest m (tree_of how m) (weakly gate i) a x) r → (5 * c ≤ length w₁) × (of.weak.next < of.split.next → r + of.weak.next ≤ 65536) × (of.split.next ≤ of.weak.next → r + of.split.next ≤ 65536)
-    keep-room r few = (
+    pub keep_room : (r : ℕ) → Numbered (fewest m (tree_of how m) (weakly gate i) a x) r → (5 * c ≤ length w₁) × (of.weak.next < of.split.next → r + of.weak.next ≤ 65536) × (of.split.next ≤ of.weak.next → r + of.split.next ≤ 65536)
+    keep_room r few = (
       (let q = h.work in let e = k.len in omega arith),
       (λ l. let a = k.weak.next in let e = ap size (weak-is l) in omega arith),
       (λ l. let a = k.split.next in let e = ap size (split-is l) in omega arith),
@@ -224,31 +224,31 @@ module _ {how : Settings} {m a : ℕ} {ks : List ℕ} {i c : ℕ} {w₀ : List �
 
     -- the weak join
     module _ (l : of.weak.next < of.split.next) {w₂ : List ℕ} (o : Reopened ks i c w₁ w₂) where
-      pub weak-writes : Joins how gate m x (singleton i) 0 false c w₂ r
-      weak-writes = weak_join (o.len ∙ k.len) (o.tables gate m x.limits (k.limits refl)) (subst (λ (t : Tree). Numbered t r) (weak-is k l) few)
+      pub weak_writes : Joins how gate m x (singleton i) 0 false c w₂ r
+      weak_writes = weak_join (o.len ∙ k.len) (o.tables gate m x.limits (k.limits refl)) (subst (λ (t : Tree). Numbered t r) (weak-is k l) few)
 
       pub weak-written : {want : Bool} {net : List ℕ} {e : Extent} {w₃ net' : List ℕ} → Joined how gate m ks (singleton i) 0 false c want w₂ net r e w₃ net'
           → Written ks (fewest m (tree_of how m) (weakly gate i) a x) 0 want w₀ net r e w₃ net'
       weak-written {want} {net} {e} {w₃} {net'} j =
-          subst (λ (t : Tree). Written ks t 0 want w₀ net r e w₃ net') (sym (weak-is k l)) (written_from (o.len ∙ k.len) (j.whole x.limits weak-writes))
+          subst (λ (t : Tree). Written ks t 0 want w₀ net r e w₃ net') (sym (weak-is k l)) (written_from (o.len ∙ k.len) (j.whole x.limits weak_writes))
 
     -- the split
-    pub restore-room : Room w₁ ks c × CanRestore gate m ks c w₁
-    restore-room = (here, record { limits = x.limits; proper = h.whole.left.proper; turned = k.limits refl })
+    pub restore_room : Room w₁ ks c × CanRestore gate m ks c w₁
+    restore_room = (here, record { limits = x.limits; proper = h.whole.left.proper; turned = k.limits refl })
 
     module _ (l : of.split.next ≤ of.weak.next) {w₂ : List ℕ} (o : Restored gate m ks c w₁ w₂) where
-      again : (frontStage ks w₂ ≡ x) × Known m ks w₂
+      again : (front_stage ks w₂ ≡ x) × Known m ks w₂
       again = o.stage w₀ h.whole.left.own.room h.whole.left.proper (k.limits refl)
 
-      pub split-writes : Splits how m a ks c w₂ r
-      split-writes =
+      pub split_writes : Splits how m a ks c w₂ r
+      split_writes =
           record {
             whole = record { left = subst (λ (y : Stage). Left m y c w₂) (sym again.0) (left_at (o.len ∙ k.len)); masks = again.1 };
             there = h.cut;
             numbers = subst (λ (y : Stage). Numbered (split_tree m (tree_of how m) a y) r) (sym again.0) (subst (λ (t : Tree). Numbered t r) (split-is k l) few);
           }
 
-      pub split-written : {want : Bool} {net : List ℕ} {e : Extent} {w₃ net' : List ℕ} → Written ks (split_tree m (tree_of how m) a (frontStage ks w₂)) 0 want w₂ net r e w₃ net'
+      pub split-written : {want : Bool} {net : List ℕ} {e : Extent} {w₃ net' : List ℕ} → Written ks (split_tree m (tree_of how m) a (front_stage ks w₂)) 0 want w₂ net r e w₃ net'
           → Written ks (fewest m (tree_of how m) (weakly gate i) a x) 0 want w₀ net r e w₃ net'
       split-written {want} {net} {e} {w₃} {net'} y =
           subst (λ (t : Tree). Written ks t 0 want w₀ net r e w₃ net') (ap (split_tree m (tree_of how m) a) again.0 ∙ sym (split-is k l)) (written_from (o.len ∙ k.len) y)
@@ -260,7 +260,7 @@ known_as e f = ap weak_of (sym e) ∙ f
 -- whether one is tried
 module _ {how : Settings} {m a : ℕ} {ks : List ℕ} {c : ℕ} {sought : Bool} {w : List ℕ} {r : ℕ} (h : Divides how m a ks c sought w r) where
   abbrev y : Stage
-  y = frontStage ks w
+  y = front_stage ks w
 
   abbrev tree : Weak → Tree
   tree q = fewest m (tree_of how m) q a y
@@ -280,15 +280,15 @@ module _ {how : Settings} {m a : ℕ} {ks : List ℕ} {c : ℕ} {sought : Bool} 
         yes true t = refl
         yes false t = absurd t
 
-    pub tries-falls : 16 * width ks + 10 < divideRank sought ks
-    tries-falls = go sought found.0
+    pub tries_falls : 16 * width ks + 10 < divide_rank sought ks
+    tries_falls = go sought found.0
       where
-        go : (b : Bool) → T b → 16 * width ks + 10 < divideRank b ks
+        go : (b : Bool) → T b → 16 * width ks + 10 < divide_rank b ks
         go true t = omega arith
         go false t = absurd t
 
-    pub tries-numbers : Numbered (tree (weakly gate i)) r
-    tries-numbers = subst (λ (q : Weak). Numbered (tree q) r) (sym e) h.numbers
+    pub tries_numbers : Numbered (tree (weakly gate i)) r
+    tries_numbers = subst (λ (q : Weak). Numbered (tree q) r) (sym e) h.numbers
 
   pub splits-here : nowhere ≡ tried_if m sought y → Splits how m a ks c w r
   splits-here e = record { whole = h.whole; there = h.cut; numbers = subst (λ (q : Weak). Numbered (tree q) r) (sym e) h.numbers }

@@ -8,7 +8,7 @@ is_masked Masked = true
 is_masked Fresh = false
 is_masked Tight = false
 
-abbrev pub mayTake : Begin → Bool
-mayTake Masked = true
-mayTake Fresh = true
-mayTake Tight = false
+abbrev pub may_take : Begin → Bool
+may_take Masked = true
+may_take Fresh = true
+may_take Tight = false

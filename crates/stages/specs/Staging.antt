@@ -2,7 +2,7 @@
 use Rattle.std.specs.Prelude.{ℕ, ◌+◌, ◌*◌, ◌≤◌, ◌<◌, ◌≡◌, Bool, true, false, cond, List, T, length}
 use Rattle.rules.specs.declared.Gate.{Gate}
 use Rattle.rules.specs.declared.Settings.{Settings}
-use Rattle.rules.specs.Settings.{split_condition, settingsOf}
+use Rattle.rules.specs.Settings.{split_condition, settings_of}
 use Rattle.rules.specs.Bytes.{at}
 use Rattle.rules.specs.Cell.{cells, card, present, width, without}
 use Rattle.rules.specs.Limits.{Limits}
@@ -11,7 +11,7 @@ use Rattle.rules.specs.Tree.{Tree, size}
 use Rattle.rules.specs.Stage.{Stage, Weak, nowhere, weak_found, computed, join_tree, split_tree, weak_tree, fewest, tree_of}
 use Rattle.tables.specs.Part.{part, Shaped}
 use Rattle.masks.specs.Masks.{Known}
-use Rattle.stage_drops.specs.Working.{Room, frontStage, Proper, ForBoth}
+use Rattle.stage_drops.specs.Working.{Room, front_stage, Proper, ForBoth}
 use Rattle.stage_blocks.specs.Blocks.{stage_of}
 use Rattle.stage_steps.specs.declared.gates.Extent.{Extent}
 use Rattle.stage_steps.specs.Extents.{ExtentOf, TreePut}
@@ -36,9 +36,9 @@ pub record Starts (how : Settings) (m : ℕ) (ks : List ℕ) (c : ℕ) (known ma
   pub few : (i : ℕ) → card ks i ≤ 8
   pub work : 24 * cells ks ≤ length w
   pub more : may ≡ true → 32 * cells ks ≤ length w
-  pub proper : Proper m (frontStage ks w)
+  pub proper : Proper m (front_stage ks w)
   pub masks : known ≡ true → Known m ks w
-  pub numbers : Numbered (tree_of how m may (frontStage ks w)) r
+  pub numbers : Numbered (tree_of how m may (front_stage ks w)) r
 
 -- a stage y with its conditions left, in a buffer with parts of c bytes, one for each cell
 pub record Left (m : ℕ) (y : Stage) (c : ℕ) (w : List ℕ) : Type 0 where
@@ -81,22 +81,22 @@ pub record Joined (how : Settings) (gate : Gate) (m : ℕ) (ks : List ℕ) (s t 
 
 -- one in which no two sets join: its limits are parts 0 and 1, its masks parts 2 and 3
 pub record Undivided (m : ℕ) (ks : List ℕ) (c : ℕ) (w : List ℕ) : Type 0 where
-  pub left : Left m (frontStage ks w) c w
+  pub left : Left m (front_stage ks w) c w
   pub masks : Known m ks w
 
 -- the condition that a split takes, by the byte of settings
 abbrev pub splits_on : ℕ → List ℕ → ℕ
-splits_on how ks = split_condition (settingsOf how).splits ks
+splits_on how ks = split_condition (settings_of how).splits ks
 
 -- one that splits on condition a
 pub record Splits (how : Settings) (m a : ℕ) (ks : List ℕ) (c : ℕ) (w : List ℕ) (r : ℕ) : Type 0 where
   pub whole : Undivided m ks c w
   pub there : T (present ks a)
-  pub numbers : Numbered (split_tree m (tree_of how m) a (frontStage ks w)) r
+  pub numbers : Numbered (split_tree m (tree_of how m) a (front_stage ks w)) r
 
 -- its function is in part 4, and what stands before it stays
 pub record Divided (how : Settings) (m a : ℕ) (ks : List ℕ) (c : ℕ) (want : Bool) (w net : List ℕ) (r : ℕ) (of : Extent) (w' net' : List ℕ) : Type 0 where
-  pub written : Written ks (split_tree m (tree_of how m) a (frontStage ks w)) (4 * c) want w net r of w' net'
+  pub written : Written ks (split_tree m (tree_of how m) a (front_stage ks w)) (4 * c) want w net r of w' net'
   pub front : (j : ℕ) → j < 4 * c → at w' j ≡ at w j
 
 -- Request 5. One that tries a weak join at condition i beside the split on condition a
@@ -110,11 +110,11 @@ pub record Tries (how : Settings) (m a : ℕ) (ks : List ℕ) (i c : ℕ) (w : L
 -- both candidates are counted from record 0 on. Their functions stand in part 4 and at the front where they are wanted; else the limits are
 -- there, as the weak join wants them
 pub record Counted (how : Settings) (gate : Gate) (m a : ℕ) (ks : List ℕ) (i c : ℕ) (want : Bool) (w : List ℕ) (of : Candidates) (w' : List ℕ) : Type 0 where
-  pub split : ExtentOf (split_tree m (tree_of how m) a (frontStage ks w)) 0 of.split
-  pub weak : ExtentOf (weak_tree m (tree_of how m) gate i (frontStage ks w)) 0 of.weak
-  pub split-function : want ≡ true → part w' (4 * c) (cells ks) ≡ computed ks (split_tree m (tree_of how m) a (frontStage ks w))
-  pub weak-function : want ≡ true → part w' 0 (cells ks) ≡ computed ks (weak_tree m (tree_of how m) gate i (frontStage ks w))
-  pub limits : want ≡ false → Turned gate m ks (frontStage ks w).limits c w'
+  pub split : ExtentOf (split_tree m (tree_of how m) a (front_stage ks w)) 0 of.split
+  pub weak : ExtentOf (weak_tree m (tree_of how m) gate i (front_stage ks w)) 0 of.weak
+  pub split-function : want ≡ true → part w' (4 * c) (cells ks) ≡ computed ks (split_tree m (tree_of how m) a (front_stage ks w))
+  pub weak-function : want ≡ true → part w' 0 (cells ks) ≡ computed ks (weak_tree m (tree_of how m) gate i (front_stage ks w))
+  pub limits : want ≡ false → Turned gate m ks (front_stage ks w).limits c w'
   pub len : length w' ≡ length w
 
 -- the weak join that a stage tries, if it does
@@ -126,4 +126,4 @@ pub record Divides (how : Settings) (m a : ℕ) (ks : List ℕ) (c : ℕ) (sough
   pub whole : Undivided m ks c w
   pub cut : T (present ks a)
   pub more : sought ≡ true → 32 * c ≤ length w
-  pub numbers : Numbered (fewest m (tree_of how m) (tried_if m sought (frontStage ks w)) a (frontStage ks w)) r
+  pub numbers : Numbered (fewest m (tree_of how m) (tried_if m sought (front_stage ks w)) a (front_stage ks w)) r

@@ -1,15 +1,17 @@
 // The stages of compiling a table. A stage joins, or divides: it splits, or takes a weak join in the place of a split.
 // Each of these starts stages with fewer conditions, but for the first block of a weak join, which has as many and may
 // take no weak join itself.
+#![tactic(auto)]
+
 ghost use Rattle.std.specs.Prelude.{◌≤◌, ◌<◌, ◌≡◌, false, ◌&&◌, ◌||◌, ltb};
 ghost use Rattle.rules.specs.Cell.{width, singleton};
-ghost use Rattle.rules.specs.Settings.{settingsOf};
+ghost use Rattle.rules.specs.Settings.{settings_of};
 ghost use Rattle.rules.specs.Stage.{weakly, fewest, tree_of};
 ghost use Rattle.places.specs.Conditions.{IsLowest};
 ghost use Rattle.tables.specs.Part.{Shaped};
-ghost use Rattle.stage_drops.specs.Working.{frontStage};
+ghost use Rattle.stage_drops.specs.Working.{front_stage};
 ghost use Rattle.stage_steps.specs.Cuts.{IsCut};
-ghost use Rattle.stages.specs.Begins.{is_masked, mayTake};
+ghost use Rattle.stages.specs.Begins.{is_masked, may_take};
 ghost use Rattle.stages.specs.Staging.{Starts, Written, Numbered, splits_on, Splits, Divided, CanJoin, Joined, Tries, Counted, tried_if, Divides};
 
 use grouping::Sets;
@@ -25,7 +27,7 @@ use weak_joins::{Candidates, Weak};
 // How a stage begins. One that a split starts finds its masks behind its limits; another makes them. The first block
 // of a weak join may take no weak join itself until it has lost a condition. One argument for both: a stage has many,
 // and each more is sixteen bytes of stack in all that are nested.
-#[derive(Drop)]
+#[derive(Clone, Copy)]
 pub enum Begin {
     Masked,
     Fresh,
@@ -45,7 +47,7 @@ fn masked(begin: Begin) -> bool
 
 // Whether a weak join may be taken.
 fn may_take(begin: Begin) -> bool
-    ensures { result ≡ mayTake begin }
+    ensures { result ≡ may_take begin }
 {
     match begin {
         Begin::Masked => true,
@@ -78,8 +80,8 @@ fn split(
     want: bool,
     how: u8,
 ) -> Extent
-    requires { Splits (settingsOf how) m (splits_on how ks) ks c w.old r × IsLowest ks low }
-    ensures { Divided (settingsOf how) m (splits_on how ks) ks c want w.old network.old r result w.new network.new }
+    requires { Splits (settings_of how) m (splits_on how ks) ks c w.old r × IsLowest ks low }
+    ensures { Divided (settings_of how) m (splits_on how ks) ks c want w.old network.old r result w.new network.new }
 {
     let on = split_on(ks, low, how);
     let i = on.number;
@@ -137,8 +139,8 @@ fn join(
     want: bool,
     how: u8,
 ) -> Extent
-    requires { CanJoin (settingsOf how) gate m ks of.s of.t (mayTake begin) c w.old r × (is_masked begin ≡ false) }
-    ensures { Joined (settingsOf how) gate m ks of.s of.t (mayTake begin) c want w.old network.old r result w.new network.new }
+    requires { CanJoin (settings_of how) gate m ks of.s of.t (may_take begin) c w.old r × (is_masked begin ≡ false) }
+    ensures { Joined (settings_of how) gate m ks of.s of.t (may_take begin) c want w.old network.old r result w.new network.new }
 {
     let rest = 8 * c;
     let first_block = stage_blocks::first_table(w, gate, m, ks, of.t, c);
@@ -196,8 +198,8 @@ fn count_both(
     want: bool,
     how: u8,
 ) -> Candidates
-    requires { Tries (settingsOf how) m (splits_on how ks) ks i c w.old × IsLowest ks low }
-    ensures { Counted (settingsOf how) gate m (splits_on how ks) ks i c want w.old result w.new }
+    requires { Tries (settings_of how) m (splits_on how ks) ks i c w.old × IsLowest ks low }
+    ensures { Counted (settings_of how) gate m (splits_on how ks) ks i c want w.old result w.new }
 {
     let mut none = [0u8; 0];
     let split = split(w, &mut none, ks, low, m, c, 0, want, how);
@@ -234,8 +236,8 @@ fn shorter(
     want: bool,
     how: u8,
 ) -> Extent
-    requires { Tries (settingsOf how) m (splits_on how ks) ks i c w.old × IsLowest ks low × Numbered (fewest m (tree_of (settingsOf how) m) (weakly gate i) (splits_on how ks) (frontStage ks w.old)) r }
-    ensures { Written ks (fewest m (tree_of (settingsOf how) m) (weakly gate i) (splits_on how ks) (frontStage ks w.old)) 0 want w.old network.old r result w.new network.new }
+    requires { Tries (settings_of how) m (splits_on how ks) ks i c w.old × IsLowest ks low × Numbered (fewest m (tree_of (settings_of how) m) (weakly gate i) (splits_on how ks) (front_stage ks w.old)) r }
+    ensures { Written ks (fewest m (tree_of (settings_of how) m) (weakly gate i) (splits_on how ks) (front_stage ks w.old)) 0 want w.old network.old r result w.new network.new }
 {
     if network.len() == 0 {
         let counted = count_both(w, ks, low, m, c, gate, i, want, how);
@@ -278,8 +280,8 @@ fn divide(
     want: bool,
     how: u8,
 ) -> Extent
-    requires { Divides (settingsOf how) m (splits_on how ks) ks c sought w.old r × IsLowest ks low }
-    ensures { Written ks (fewest m (tree_of (settingsOf how) m) (tried_if m sought (frontStage ks w.old)) (splits_on how ks) (frontStage ks w.old)) 0 want w.old network.old r result w.new network.new }
+    requires { Divides (settings_of how) m (splits_on how ks) ks c sought w.old r × IsLowest ks low }
+    ensures { Written ks (fewest m (tree_of (settings_of how) m) (tried_if m sought (front_stage ks w.old)) (splits_on how ks) (front_stage ks w.old)) 0 want w.old network.old r result w.new network.new }
 {
     match weak_joins::first_weak(w, ks, m, c, sought) {
         Weak::At(gate, i) => shorter(w, network, ks, low, m, c, gate, i, r, want, how),
@@ -294,7 +296,7 @@ fn divide(
 // Whether a stage of c cells, of which n are left, tries a weak join: where these are tried at all, if it might before, or
 // has lost a condition.
 fn tries(how: u8, begin: Begin, n: usize, c: usize) -> bool
-    ensures { result ≡ ((settingsOf how).weak && (mayTake begin || ltb n c)) }
+    ensures { result ≡ ((settings_of how).weak && (may_take begin || ltb n c)) }
 {
     if !settings::weak(how) {
         return false;
@@ -317,8 +319,8 @@ pub fn stage(
     want: bool,
     how: u8,
 ) -> Extent
-    requires { Starts (settingsOf how) m ks c (is_masked begin) (mayTake begin) w.old r }
-    ensures { Written ks (tree_of (settingsOf how) m (mayTake begin) (frontStage ks w.old)) 0 want w.old network.old r result w.new network.new }
+    requires { Starts (settings_of how) m ks c (is_masked begin) (may_take begin) w.old r }
+    ensures { Written ks (tree_of (settings_of how) m (may_take begin) (front_stage ks w.old)) 0 want w.old network.old r result w.new network.new }
 {
     let known = masked(begin);
     let plan = stage_plan::plan_stage(w, ks, m, c, known, how);

@@ -1,13 +1,15 @@
 // The standard streams of the programs: a table file on standard input, complaints on standard
 // error.
-ghost use Rattle.streams.specs.Filling.{Filled};
+#![tactic(auto)]
 
-use libc::{STDERR_FILENO, STDIN_FILENO};
+ghost use Rattle.streams.specs.Filling.{Filled, Takes};
+
+use std::io::{Read, Write};
 
 // A byte more than the longest table file has, so that a longer input is refused.
 pub const INPUT: usize = 16529;
 
-#[derive(Drop)]
+#[derive(Clone, Copy)]
 pub enum Input {
     // So many bytes of the buffer are the file, or enough of it to tell that it is too long.
     File(usize),
@@ -15,25 +17,22 @@ pub enum Input {
     Unread,
 }
 
-// Whether standard input has been read to its end: a read that fails is no end.
-fn input_ended() -> bool {
-    let mut next = [0u8; 1];
-    libc::read(STDIN_FILENO, &mut next) == 0
-}
-
-// Of a file that does not fill the buffer, all has to be read.
-pub fn read_file(file: &mut [u8]) -> Input
-    ensures { Filled result file.new }
+// Of a file that does not fill the buffer, all has to be read: a read that fails is no end.
+pub fn read_file<R: Read>(stdin: &mut R, file: &mut [u8]) -> Input
+    ensures filled { Filled result file.new }
+    ensures taken { Takes (R.remaining stdin.old) result file.new }
 {
-    let len = io::read_full(STDIN_FILENO, file);
-    if len < file.len() {
-        if !input_ended() {
-            return Input::Unread;
+    let mut len = 0;
+    while len < file.len() {
+        match stdin.read(&mut file[len..]) {
+            Ok(0) => return Input::File(len),
+            Ok(count) => len += count,
+            Err(_) => return Input::Unread,
         }
     }
     Input::File(len)
 }
 
-pub fn complain(text: &[u8]) {
-    io::write_all(STDERR_FILENO, text);
+pub fn complain(stderr: &mut impl Write, text: &[u8]) {
+    let _ = stderr.write_all(text);
 }

@@ -1,5 +1,7 @@
 // Reading a table file: one pass judges every record, and only then a second pass writes the
 // limits. Files of both editions are judged here, those of ours are read.
+#![tactic(auto)]
+
 ghost use Rattle.rules.specs.TableFile.{judge_file};
 ghost use Rattle.table_records.specs.Records.{Judges};
 ghost use Rattle.table_file.specs.Reading.{Read};
@@ -10,7 +12,7 @@ use table_records::Judged;
 
 mod writing;
 
-#[derive(Drop)]
+#[derive(Clone, Copy)]
 pub enum TableAnswer {
     Table(Shape),
     Refused(Refusal),

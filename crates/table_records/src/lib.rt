@@ -1,5 +1,7 @@
 // The records of a table file, judged by 01's rows. The two editions of files differ in their cell
 // records alone.
+#![tactic(auto)]
+
 ghost use Rattle.std.specs.Prelude.{◌≡◌, ◌&&◌, ◌+◌, ◌*◌, ◌/◌, ◌≤◌, ◌<◌, leb, ltb, eqb, length, set};
 ghost use Rattle.rules.specs.Bytes.{at, all, zeros};
 ghost use Rattle.rules.specs.Cell.{cells, card};
@@ -13,13 +15,13 @@ use tables::tests;
 
 // What the records so far say: conditions and grades in a shape, m being 0 before the grades
 // record, and the number after that of the last cell.
-#[derive(Drop)]
+#[derive(Clone, Copy)]
 pub struct Seen {
     pub shape: Shape,
     pub next: usize,
 }
 
-#[derive(Drop)]
+#[derive(Clone, Copy)]
 pub enum Judged {
     Accepted(Seen),
     Refused(Refusal),

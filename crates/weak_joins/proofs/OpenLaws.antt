@@ -21,7 +21,7 @@ use Rattle.tables.specs.Part.{part, Laid, Two}
 use Rattle.tables.proofs.PartLaws.{part_at, part_length, laid-part, laid-apart}
 use Rattle.join_tables.specs.Parts.{Below}
 use Rattle.join_tables.proofs.TurnLaws.{below-part}
-use Rattle.stage_drops.specs.Working.{Room, frontStage, Proper}
+use Rattle.stage_drops.specs.Working.{Room, front_stage, Proper}
 use Rattle.stage_blocks.specs.Blocks.{stage_of}
 use Rattle.weak_joins.specs.Opening.{Limited, Turnable, Turns, Turned, Reopened, Opened}
 
@@ -166,18 +166,18 @@ module _ {w ks : List ℕ} (i : ℕ) {n : ℕ} (room : Room w ks n) {w₁ w₂ w
 
 -- of the stage at the front
 module _ {w ks : List ℕ} {n : ℕ} (room : Room w ks n) where
-  front-limits : Limited (frontStage ks w).limits n n w
+  front-limits : Limited (front_stage ks w).limits n n w
   front-limits = record { lows = ap (part w 0) room.own; highs = ap (λ (k : ℕ). part w k k) room.own }
 
-  pub turnable_front : {m : ℕ} → Proper m (frontStage ks w) → Turnable m n (5 * n) n w
+  pub turnable_front : {m : ℕ} → Proper m (front_stage ks w) → Turnable m n (5 * n) n w
   turnable_front h =
-      turnable (frontStage ks w).limits n (5 * n) room.own h.some (omega arith) (omega arith)
+      turnable (front_stage ks w).limits n (5 * n) room.own h.some (omega arith) (omega arith)
       (parts room n (5 * n) (omega arith) (omega arith) (inl (omega arith))) (proper_good h) front-limits
 
   pub opened : (gate : Gate) {m i : ℕ} {w₁ w₂ : List ℕ} → Turns gate m n (5 * n) n w w₁ → Reopened ks i n w₁ w₂ → Opened gate m ks i n w w₂
   opened gate {m} {i} {w₁} t r =
-      let u = t.limits ks (frontStage ks w).limits room.own front-limits in
-      let v : Turned gate m ks (frontStage ks w).limits n w₁ = record { lows = u.lows; highs = u.highs } in
+      let u = t.limits ks (front_stage ks w).limits room.own front-limits in
+      let v : Turned gate m ks (front_stage ks w).limits n w₁ = record { lows = u.lows; highs = u.highs } in
       record {
         tables = r.tables gate m _ v;
         limits = r.stays gate m _ v;

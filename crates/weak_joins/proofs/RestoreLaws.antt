@@ -22,7 +22,7 @@ use Rattle.masks.specs.Masks.{Known}
 use Rattle.mask_making.specs.Making.{Space, Made}
 use Rattle.mask_making.proofs.KeptLaws.{kept-part}
 use Rattle.mask_making.proofs.MadeLaws.{made_known}
-use Rattle.stage_drops.specs.Working.{Room, frontStage}
+use Rattle.stage_drops.specs.Working.{Room, front_stage}
 use Rattle.stage_blocks.specs.Blocks.{stage_of}
 use Rattle.weak_joins.specs.Opening.{Limited, Turnable, Turns, Turned, CanRestore, Restored}
 use Rattle.weak_joins.proofs.OpenLaws.{parts, room-same, proper_good, turnable}
@@ -41,7 +41,7 @@ turned_twice Min ks m l g e f =
     ap₂ limits_of (complement_twice ks m l.lower (λ c h. le_trans (g.room c h) (g.top c h)) e) (complement_twice ks m l.upper g.top f)
 
 -- good limits at the front
-front-is : {w ks : List ℕ} {n : ℕ} {l : Limits} → n ≡ cells ks → Limited l n n w → frontStage ks w ≡ stage_of ks l
+front-is : {w ks : List ℕ} {n : ℕ} {l : Limits} → n ≡ cells ks → Limited l n n w → front_stage ks w ≡ stage_of ks l
 front-is {w} {ks} own here = ap (stage_of ks) (ap₂ limits_of (ap (part w 0) (sym own) ∙ here.lows) (ap (λ (k : ℕ). part w k k) (sym own) ∙ here.highs))
 
 module _ {w ks : List ℕ} {m n : ℕ} {l : Limits} (room : Room w ks n) (good : Good ks m l) (here : Limited l n n w) where
@@ -61,7 +61,7 @@ module _ {w ks : List ℕ} {m n : ℕ} {l : Limits} (room : Room w ks n) (good :
       byte a e c h = ap (λ (u : List ℕ). at u c) (sym e) ∙ part_at w a n c h
 
   -- their masks made
-  made : {w' : List ℕ} → Made w ks n w' → (frontStage ks w' ≡ stage_of ks l) × Known m ks w'
+  made : {w' : List ℕ} → Made w ks n w' → (front_stage ks w' ≡ stage_of ks l) × Known m ks w'
   made {w'} d = (
     front-is {ks = ks} room.own (record { lows = kept 0 (omega arith) ∙ here.lows; highs = kept n (omega arith) ∙ here.highs }),
     made_known m space (subst (λ (x : Stage). Good ks m x.limits) (sym (front-is {ks = ks} room.own here)) good) d,
@@ -95,7 +95,7 @@ module _ {gate : Gate} {w ks : List ℕ} {m n : ℕ} (room : Room w ks n) where
     restored d =
         record {
           stage = λ w₀ long proper u.
-              let l = (frontStage ks w₀).limits in
+              let l = (front_stage ks w₀).limits in
               let own = room.own in
               let e = turned_twice gate ks m l (proper_good proper) (part_length w₀ 0 (cells ks) (omega arith)) (part_length w₀ (cells ks) (cells ks) (omega arith)) in
               made (room-same t.len room) (proper_good proper) (subst (λ (x : Limits). Limited x n n w₁) e (back-here u)) d;

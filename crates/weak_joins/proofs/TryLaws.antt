@@ -26,7 +26,7 @@ use Rattle.laws.proofs.WeakLaws.{weak-none, weak-at}
 use Rattle.tables.specs.Part.{part}
 use Rattle.join_tables.specs.Parts.{side}
 use Rattle.masks.specs.Masks.{above_least, Masked, mask_part, Known}
-use Rattle.stage_drops.specs.Working.{Room, frontStage, Proper}
+use Rattle.stage_drops.specs.Working.{Room, front_stage, Proper}
 use Rattle.weak_joins.specs.Trying.{Common, lacking}
 use Rattle.weak_joins.proofs.CommonLaws.{full_byte}
 use Rattle.weak_joins.proofs.OpenLaws.{proper_good}
@@ -124,14 +124,14 @@ module _ (ks : List ℕ) (m : ℕ) (l : Limits) where
       ∙ sym (u.has-is i h))
 
 -- what the search finds, from the masks of the stage at the front
-module _ {m : ℕ} {ks w : List ℕ} {n : ℕ} (room : Room w ks n) (proper : Proper m (frontStage ks w)) (k : Known m ks w) (eight : length ks ≡ 8) where
+module _ {m : ℕ} {ks w : List ℕ} {n : ℕ} (room : Room w ks n) (proper : Proper m (front_stage ks w)) (k : Known m ks w) (eight : length ks ≡ 8) where
   pub is_found : {a b : ℕ} → Common n (part w (2 * n) n) (part w 0 n) 0 a → Common n (part w (3 * n) n) (part w n n) (m - 1) b
-      → first_weak (lacking ks a b) (numbers_from 0 8) ≡ weak_found m (frontStage ks w)
+      → first_weak (lacking ks a b) (numbers_from 0 8) ≡ weak_found m (front_stage ks w)
   is_found {a} {b} ca cb =
       ap₂ (λ (p : Gate → ℕ → Bool) (j : ℕ). first_weak p (numbers_from 0 j)) (fun_ext (λ op. fun_ext (λ i. same op i (present ks i) refl))) (sym eight)
     where
       l : Limits
-      l = (frontStage ks w).limits
+      l = (front_stage ks w).limits
 
       common : (op : Gate) → Common (cells ks) (part w (mask_part op (cells ks)) (cells ks)) (wanted ks m l op) (side op 0 (m - 1)) (side op a b)
       common Max = subst (λ (c : ℕ). Common c (part w (2 * c) c) (part w 0 c) 0 a) room.own ca

@@ -7,7 +7,7 @@ use Rattle.rules.specs.Limits.{Limits}
 use Rattle.tables.specs.Part.{part, Two}
 use Rattle.join_tables.specs.Parts.{Below}
 use Rattle.masks.specs.Masks.{Known}
-use Rattle.stage_drops.specs.Working.{frontStage, Proper, ForBoth}
+use Rattle.stage_drops.specs.Working.{front_stage, Proper, ForBoth}
 use Rattle.stage_blocks.specs.Blocks.{stage_of}
 
 -- limits of n cells: the lower ones in part 0, the upper ones at a
@@ -44,8 +44,8 @@ pub record Reopened (ks : List ℕ) (i n : ℕ) (w w' : List ℕ) : Type 0 where
 
 -- the same of the stage at the front
 pub record Opened (gate : Gate) (m : ℕ) (ks : List ℕ) (i n : ℕ) (w w' : List ℕ) : Type 0 where
-  pub tables : ForBoth gate m (frontStage ks w) (singleton i) 0 w'
-  pub limits : Turned gate m ks (frontStage ks w).limits n w'
+  pub tables : ForBoth gate m (front_stage ks w) (singleton i) 0 w'
+  pub limits : Turned gate m ks (front_stage ks w).limits n w'
   pub kept : part w' (4 * n) n ≡ part w (4 * n) n
   pub len : length w' ≡ length w
 
@@ -57,6 +57,6 @@ pub record CanRestore (gate : Gate) (m : ℕ) (ks : List ℕ) (n : ℕ) (w : Lis
 
 -- whatever buffer the stage stood in at the front of: it does again, with its masks
 pub record Restored (gate : Gate) (m : ℕ) (ks : List ℕ) (n : ℕ) (w w' : List ℕ) : Type 0 where
-  pub stage : (w₀ : List ℕ) → 8 * n ≤ length w₀ → Proper m (frontStage ks w₀) → Turned gate m ks (frontStage ks w₀).limits n w
-      → (frontStage ks w' ≡ frontStage ks w₀) × Known m ks w'
+  pub stage : (w₀ : List ℕ) → 8 * n ≤ length w₀ → Proper m (front_stage ks w₀) → Turned gate m ks (front_stage ks w₀).limits n w
+      → (front_stage ks w' ≡ front_stage ks w₀) × Known m ks w'
   pub len : length w' ≡ length w

@@ -3,12 +3,14 @@
 //
 // While one is built, part 0 has the lower limits as the max join wants them and part 5, which no join writes to, the
 // upper ones: from these its tables are made once more, or the stage's limits.
+#![tactic(auto)]
+
 ghost use Rattle.std.specs.Prelude.{◌+◌, ◌*◌, ◌≤◌, ◌<◌, ◌≡◌, cond, length, eqb};
 ghost use Rattle.rules.specs.Bytes.{pick, numbers_from};
 ghost use Rattle.rules.specs.Stage.{nowhere, first_weak, weak_found};
 ghost use Rattle.tables.specs.Part.{part};
 ghost use Rattle.masks.specs.Masks.{Known};
-ghost use Rattle.stage_drops.specs.Working.{Room, frontStage, Proper};
+ghost use Rattle.stage_drops.specs.Working.{Room, front_stage, Proper};
 ghost use Rattle.weak_joins.specs.Opening.{Turnable, Turns, Opened, Reopened, CanRestore, Restored};
 ghost use Rattle.weak_joins.specs.Keeping.{Kept};
 ghost use Rattle.weak_joins.specs.Trying.{weak_of, Common, lacking};
@@ -20,14 +22,14 @@ use stage_steps::values;
 use tables::fill;
 
 // The weak join that a stage tries: by a gate at a condition, or none.
-#[derive(Drop)]
+#[derive(Clone, Copy)]
 pub enum Weak {
     Nowhere,
     At(Gate, usize),
 }
 
 // How far the networks of a split and of a weak join reach, each counted from record 0 on.
-#[derive(Drop)]
+#[derive(Clone, Copy)]
 pub struct Candidates {
     pub split: Extent,
     pub weak: Extent,
@@ -77,8 +79,8 @@ fn first_lacking(ks: [u8; PLACES], by_max: u8, by_min: u8) -> Weak
 // The weak join that the stage at the front tries, if it may, from its masks: a condition counts by a gate unless all cells refuse
 // it. Cells with a lower grade of 0 are not asked for max, nor those with the greatest upper grade for min.
 pub fn first_weak(w: &[u8], ks: [u8; PLACES], m: u8, n: usize, may: bool) -> Weak
-    requires { Room w.now ks n × Proper m (frontStage ks w.now) × Known m ks w.now }
-    ensures { weak_of result ≡ cond may (weak_found m (frontStage ks w.now)) nowhere }
+    requires { Room w.now ks n × Proper m (front_stage ks w.now) × Known m ks w.now }
+    ensures { weak_of result ≡ cond may (weak_found m (front_stage ks w.now)) nowhere }
 {
     if !may {
         return Weak::Nowhere;
@@ -116,7 +118,7 @@ pub fn reopen(w: &mut [u8], ks: [u8; PLACES], i: usize, n: usize)
 
 // The tables of the weak join of the stage at the front, by a gate at condition i.
 pub fn open(w: &mut [u8], gate: Gate, m: u8, ks: [u8; PLACES], i: usize, n: usize)
-    requires { Room w.old ks n × Proper m (frontStage ks w.old) × (i < 8) }
+    requires { Room w.old ks n × Proper m (front_stage ks w.old) × (i < 8) }
     ensures { Opened gate m ks i n w.old w.new }
 {
     turn(w, gate, m, n, 5 * n, n);

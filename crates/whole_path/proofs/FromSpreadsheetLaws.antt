@@ -35,7 +35,7 @@ module _ (sets file : List ℕ) (c : Converted Spreadsheet sets file) (table : S
 
   -- a record lists the same cell in both
   lists_ours : (k cell : ℕ) → ListsSet sets ks k cell → Lists file ks k cell
-  lists_ours k cell h = (subst (λ (n : ℕ). k < n) (sym same_count) h.0, c.cell_kind_lem k h.0 h.1, same-cell k h.0 ∙ h.2)
+  lists_ours k cell h = (subst (λ (n : ℕ). k < n) (sym same_count) h.0, c.cell_stays k h.0 h.1, same-cell k h.0 ∙ h.2)
 
   lists_sets : (k cell : ℕ) → Lists file ks k cell → ListsSet sets ks k cell
   lists_sets k cell h =

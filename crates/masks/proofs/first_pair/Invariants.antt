@@ -1,0 +1,9 @@
+use Rattle.tables.specs.Part.{part}
+use Rattle.masks.proofs.SearchLaws.{Outer, Inner, admitted}
+use Rattle.masks.proofs.first_pair.Given as goal
+
+abbrev pub invariant-loop-j : goal.invariant-loop-j
+invariant-loop-j l = Inner (admitted l.ks (part l.w l.a l.n)) l.found l.i l.j
+
+abbrev pub invariant-search : goal.invariant-search
+invariant-search l = Outer (admitted l.ks (part l.w l.a l.n)) l.found l.i

@@ -1,0 +1,10 @@
+-- `tables::fill::if_above` meets its contract.
+use native.Mathlib.Omega.{arith}
+use borrow.Author.Tests.{lt-ltb, le-ltb}
+use Rattle.tables.proofs.fill.if_above.Goals as goal
+
+pub returns-then-limit-grade : goal.returns-then-limit-grade
+returns-then-limit-grade c = let h = c.if-limit-grade.true in simp (lt-ltb _ _ h)
+
+pub returns-else-limit-grade : goal.returns-else-limit-grade
+returns-else-limit-grade c = simp (le-ltb c.args.limit c.args.grade (omega arith))
