@@ -1,4 +1,4 @@
-//! Links the archive that GRADES_LIBRARY names, or the one that the toolchain last built.
+//! Links the archive that GRADES_LIBRARY names, or the one that tools/build last made.
 
 use std::env;
 use std::path::PathBuf;

@@ -4,7 +4,7 @@
  * cell. Its status is 1 where a call is refused, where the network is outside
  * the limits, and where input or output fails.
  *
- *   rt staticlib panel
+ *   tools/build panel
  *   cc -I include -o target/panel examples/panel.c target/staticlib/libpanel.a
  *   target/panel < examples/rota.table
  */

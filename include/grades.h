@@ -5,7 +5,7 @@
  * convention, which needs nothing but memset and memcpy of a C library. To
  * build it, and a program with it:
  *
- *   rt staticlib panel
+ *   tools/build panel
  *   cc -I include -o program program.c target/staticlib/libpanel.a
  *
  * Name the archive by its path: -lpanel may find the one of ncurses, which has

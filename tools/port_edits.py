@@ -106,7 +106,8 @@ def main():
             write(variant(whole, name, k), texts[file])
     subprocess.run(['git', 'add', '-A'], cwd=work, check=True)
     subprocess.run(['git', '-c', 'user.name=x', '-c', 'user.email=x@x', 'commit', '-qm', 'variants'], cwd=work, check=True)
-    subprocess.run([sys.executable, '/opt/rattle/port/port.py'], cwd=work, check=True, stdout=subprocess.DEVNULL)
+    kit = os.path.dirname(subprocess.run(['rt', 'doc'], check=True, stdout=subprocess.PIPE, text=True).stdout.strip())
+    subprocess.run([sys.executable, os.path.join(kit, 'port', 'port.py')], cwd=work, check=True, stdout=subprocess.DEVNULL)
     subprocess.run([sys.executable, os.path.join(HERE, 'respell.py')], cwd=work, check=True)
     turned = left = 0
     for crate, name, path in edits(work):

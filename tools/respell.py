@@ -19,6 +19,7 @@ LIBRARY_WORDS = ('length drop take append set get_or map reverse cond pick not a
 OTHERWISE = {
     'fullFrom': 'is_full_from',
     'noCell': 'no_cell_byte',
+    'cell-kind': 'cell_stays',
 }
 
 

@@ -23,11 +23,11 @@ need_rust() {
 
 # Builds the library, unless GRADES_LIBRARY names an archive; exports that name, in full.
 need_library() {
-    local name=$1 log=$2
+    local name=$1
     if [ -n "${GRADES_LIBRARY-}" ]; then
         [ -f "$GRADES_LIBRARY" ] || { echo "$name: GRADES_LIBRARY names no file: $GRADES_LIBRARY"; exit 1; }
     else
-        rt staticlib panel > "$log" 2>&1 || { cat "$log"; exit 1; }
+        tools/build panel
         GRADES_LIBRARY=target/staticlib/libpanel.a
     fi
     GRADES_LIBRARY=$(realpath "$GRADES_LIBRARY")
