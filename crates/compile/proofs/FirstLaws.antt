@@ -140,12 +140,6 @@ module _ (how : Settings) (shape : Shape) (lower upper work : List ℕ) (ok : Ac
 
 -- the same for the number of cells and the places that the code reads off the shape
 module _ (how : Settings) (shape : Shape) (lower upper work : List ℕ) (ok : Accepted shape lower upper (length work)) (n : ℕ) (count : n ≡ cells (places_of shape)) where
-  pub few : n ≤ 1024
-  few = let h = (lent how shape lower upper work ok).few-cells in omega arith
-
-  pub rooms_by : (n ≤ length lower) × (n ≤ length upper) × (32 * n ≤ length work)
-  rooms_by = let r = rooms how shape lower upper work ok in (let h = r.low in omega arith, let h = r.high in omega arith, let h = r.work-room in omega arith)
-
   module _ {v w : List ℕ} (low : Laid work 0 (part lower 0 n) n v) (high : Laid v n (part upper 0 n) n w) (k : List ℕ) (places : k ≡ places_of shape) where
     low_by : Laid work 0 (part lower 0 (cells (places_of shape))) (cells (places_of shape)) v
     low_by = subst (λ (i : ℕ). Laid work 0 (part lower 0 i) i v) count low

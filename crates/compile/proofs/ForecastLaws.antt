@@ -5,13 +5,14 @@ use mathlib.Core.List.{List, [], ◌∷◌}
 use native.Mathlib.Omega.{arith}
 use lib.Dec.{T, eqb}
 use lib.ListN.{length}
+use Rattle.std.specs.Prelude.{Result, Ok, Err}
 use Rattle.rules.specs.declared.Refusal.{Refusal}
 use Rattle.rules.specs.declared.Refusal.TheVariants.{ShapeRange, ShortBuffer, GradeLimits}
 use Rattle.rules.specs.declared.Settings.{Settings}
 use Rattle.rules.specs.Settings.{usual}
 use Rattle.rules.specs.Cell.{cells}
 use Rattle.rules.specs.Limits.{limits_sound}
-use Rattle.rules.specs.Verdict.{Verdict, accepted, refused, and_then, answer_of}
+use Rattle.rules.specs.Verdict.{Verdict, accepted, refused, and_then, result_of, outcome_of, says}
 use Rattle.rules.specs.Network.{Record, network_records}
 use Rattle.rules.specs.Stage.{compiled}
 use Rattle.rules.specs.Demands.{compiled_records}
@@ -22,31 +23,15 @@ use Rattle.laws.proofs.CompiledLaws.{few-compiled}
 use Rattle.laws.proofs.DepthLaws.{tree-depth, depth-size, foretold}
 use Rattle.laws.proofs.TestLaws.{pick_ok, passed}
 use Rattle.laws.proofs.TreeLaws.{length-records}
-use Rattle.laws.proofs.VerdictLaws.{accepted-same, row_passed}
+use Rattle.laws.proofs.VerdictLaws.{accepted-same, row_passed, result-says, ok-err, ok_same, was_err}
 use Rattle.shape.specs.declared.Shape.{Shape}
 use Rattle.shape.specs.Shapes.{cards_of, places_of, is_sound}
 use Rattle.stage_steps.specs.declared.gates.Extent.{Extent}
-use Rattle.compile.specs.declared.Judged.TheVariants as judged
-use Rattle.compile.specs.declared.ForecastAnswer.{ForecastAnswer}
-use Rattle.compile.specs.declared.ForecastAnswer.TheVariants.{Figures, Refused}
-use Rattle.compile.specs.Compiling.{table_rows, compile_rows, judged_as, Accepted, Recorded}
-use Rattle.compile.specs.Forecasting.{forecast_answer, forecast_means, forecast_rows, Foretells, Forecasts}
+use Rattle.compile.specs.declared.Figures.{Figures}
+use Rattle.compile.specs.Compiling.{table_rows, compile_rows, Accepted, Recorded}
+use Rattle.compile.specs.Forecasting.{figures_of, forecast_rows, Foretells, Forecasts}
 use Rattle.compile.proofs.CountLaws.{was_accepted, accepted-records}
-use Rattle.compile.proofs.RowLaws.{Passed, was_unsound, table, judged-same, cells-between}
-
--- two answers
-figures-refused : {A : Type 0} {n d : ℕ} {r : Refusal} → Figures n d ≡ Refused r → A
-figures-refused e = let z : ◌≡◌ {A = ℕ} 0 1 = cc in absurd (omega arith)
-
-figures-count : {n d k e : ℕ} → Figures n d ≡ Figures k e → n ≡ k
-figures-count e = cc
-
-figures-depth : {n d k e : ℕ} → Figures n d ≡ Figures k e → d ≡ e
-figures-depth e = cc
-
-forecast_means_lem : (v : Verdict Forecast) → forecast_means (forecast_answer v) ≡ answer_of (λ f. f.count ∷ f.depth ∷ []) v
-forecast_means_lem (accepted f) = refl
-forecast_means_lem (refused q) = refl
+use Rattle.compile.proofs.RowLaws.{Passed, table, judged-same, cells-between}
 
 -- the room for the largest table's network is enough for every table's
 most-largest : (c : ℕ) → c ≤ 1024 → most_records c ≤ most_records 1024
@@ -73,16 +58,18 @@ module _ (how : Settings) (shape : Shape) (lower upper work : List ℕ) {network
   told = alike network enough
 
   -- a refusal
-  pub forecast_stops : {r : Refusal} → judged.Refused r ≡ judged_as (table_rows usual shape lower upper (length work) network) → Forecasts how shape lower upper work (Refused r) work
-  forecast_stops {r} h =
-      let e : forecast_rows how shape lower upper work ≡ refused r = told ∙ ap (λ (v : Verdict (List Record)). and_then v (λ xs. accepted (forecast_of xs))) (was_unsound rows (h ∙ judged-same usual how shape lower upper (length work) network)) in
-      let answer : Refused r ≡ forecast_answer (forecast_rows how shape lower upper work) = sym (ap forecast_answer e) in
+  pub forecast_stops : {j : Result (Unit {0}) Refusal} {a : Result Figures Refusal} {r : Refusal} → j ≡ outcome_of (table_rows usual shape lower upper (length work) network) → j ≡ Err r → a ≡ Err r
+      → Forecasts how shape lower upper work a work
+  forecast_stops {r = r} is h k =
+      let stopped = was_err (λ xs. tt) rows (sym h ∙ is ∙ judged-same usual how shape lower upper (length work) network) in
+      let e : forecast_rows how shape lower upper work ≡ refused r = told ∙ ap (λ (v : Verdict (List Record)). and_then v (λ xs. accepted (forecast_of xs))) stopped in
+      let answer = k ∙ sym (ap (λ (v : Verdict Forecast). result_of figures_of v) e) in
       record {
         answers = answer;
-        means = ap forecast_means answer ∙ forecast_means_lem (forecast_rows how shape lower upper work);
+        means = ap (says (λ g. g.records ∷ g.depth ∷ [])) answer ∙ result-says figures_of (λ g. g.records ∷ g.depth ∷ []) (forecast_rows how shape lower upper work);
         stops = alike;
-        foretells = λ records depth q. figures-refused (sym q);
-        refusal_keeps = λ q k. refl;
+        foretells = λ told q. ok-err (sym q ∙ k);
+        refusal_keeps = λ q h. refl;
         kept = past_same;
       }
 
@@ -98,32 +85,32 @@ module _ (how : Settings) (shape : Shape) (lower upper work : List ℕ) {network
 
   -- figures
   pub forecast_tells : Passed shape lower upper (length work) network → {net : List ℕ} {of : Extent} {work' net' : List ℕ}
-      → Recorded how shape lower upper work net of work' net' → Forecasts how shape lower upper work (Figures of.next of.depth) work'
+      → Recorded how shape lower upper work net of work' net' → Forecasts how shape lower upper work (Ok (record { records = of.next; depth = of.depth })) work'
   forecast_tells ok {of = of} w =
+      let figures : Figures = record { records = of.next; depth = of.depth } in
       let e : forecast_rows how shape lower upper work ≡ accepted (forecast_of rs) = told ∙ ap (λ (v : Verdict (List Record)). and_then v (λ xs. accepted (forecast_of xs))) (ok.rows how) in
-      let answer : Figures of.next of.depth ≡ forecast_answer (forecast_rows how shape lower upper work) = ap₂ Figures w.count w.depth ∙ sym (ap forecast_answer e) in
+      let answer : ◌≡◌ {A = Result Figures Refusal} (Ok figures) (result_of figures_of (forecast_rows how shape lower upper work)) =
+      ap₂ (λ (n d : ℕ). Ok (record { records = n; depth = d })) w.count w.depth ∙ sym (ap (λ (v : Verdict Forecast). result_of figures_of v) e) in
       record {
         answers = answer;
-        means = ap forecast_means answer ∙ forecast_means_lem (forecast_rows how shape lower upper work);
+        means = ap (says (λ g. g.records ∷ g.depth ∷ [])) answer ∙ result-says figures_of (λ g. g.records ∷ g.depth ∷ []) (forecast_rows how shape lower upper work);
         stops = alike;
-        foretells = λ records depth q. foretells_by (sym (figures-count q) ∙ w.count) (sym (figures-depth q) ∙ w.depth);
-        refusal_keeps = λ q k. figures-refused k;
+        foretells = λ told q.
+            let same : figures ≡ told = ok_same q in
+            foretells_by (sym (ap (λ (g : Figures). g.records) same) ∙ w.count) (sym (ap (λ (g : Figures). g.depth) same) ∙ w.depth);
+        refusal_keeps = λ q k. ok-err k;
         kept = w.kept;
       }
 
 -- settings that are known
-pub forecasts_as : {a b : Settings} {shape : Shape} {lower upper work : List ℕ} {answer : ForecastAnswer} {work' : List ℕ} → a ≡ b
+pub forecasts_as : {a b : Settings} {shape : Shape} {lower upper work : List ℕ} {answer : Result Figures Refusal} {work' : List ℕ} → a ≡ b
     → Forecasts a shape lower upper work answer work' → Forecasts b shape lower upper work answer work'
 forecasts_as {shape = shape} {lower} {upper} {work} {answer} {work'} e c = subst (λ (how : Settings). Forecasts how shape lower upper work answer work') e c
 
 -- the verdict behind an answer
-pub was_told : (v : Verdict Forecast) {n d : ℕ} → Figures n d ≡ forecast_answer v → (f : Forecast) × (v ≡ accepted f) × (n ≡ f.count) × (d ≡ f.depth)
-was_told (accepted f) e = (f, refl, figures-count e, figures-depth e)
-was_told (refused q) e = figures-refused e
-
-pub was_not_told : (v : Verdict Forecast) {q : Refusal} → Refused q ≡ forecast_answer v → v ≡ refused q
-was_not_told (accepted f) e = figures-refused (sym e)
-was_not_told (refused r) e = cc
+pub was_told : (v : Verdict Forecast) {g : Figures} → Ok g ≡ result_of figures_of v → (f : Forecast) × (v ≡ accepted f) × (g.records ≡ f.count) × (g.depth ≡ f.depth)
+was_told (accepted f) e = let same = ok_same e in (f, refl, ap (λ (g : Figures). g.records) same, ap (λ (g : Figures). g.depth) same)
+was_told (refused q) e = ok-err e
 
 -- what the figures are, and that they are few
 pub record Told (how : Settings) (shape : Shape) (lower upper : List ℕ) (n d : ℕ) : Type 0 where
@@ -132,9 +119,9 @@ pub record Told (how : Settings) (shape : Shape) (lower upper : List ℕ) (n d :
   pub few : n ≤ 3067
   pub below : d < n
 
-pub told_figures : {how : Settings} {shape : Shape} {lower upper work : List ℕ} {answer : ForecastAnswer} {work' : List ℕ} → Forecasts how shape lower upper work answer work' → (n d : ℕ) → answer ≡ Figures n d
-    → Told how shape lower upper n d
-told_figures {how} {shape} {lower} {upper} {work} c n d e =
+pub told_figures : {how : Settings} {shape : Shape} {lower upper work : List ℕ} {answer : Result Figures Refusal} {work' : List ℕ} → Forecasts how shape lower upper work answer work' → (g : Figures) → answer ≡ Ok g
+    → Told how shape lower upper g.records g.depth
+told_figures {how} {shape} {lower} {upper} {work} c g e =
     let ks = places_of shape in
     let l = lent_limits (places_of shape) lower upper in
     let tree = compiled how ks shape.m l in
@@ -144,8 +131,8 @@ told_figures {how} {shape} {lower} {upper} {work} c n d e =
     let t = row_passed (limits_sound ks shape.m l) GradeLimits _ b.1 in
     let same : v.0 ≡ forecast_of (compiled_records how ks shape.m l) = sym (accepted-same t.1) in
     let ok : Accepted shape lower upper (length work) = record { shape-sound = a.0; room = b.0; limits-sound = t.0 } in
-    let count : n ≡ length (compiled_records how ks shape.m l) = v.2 ∙ ap (λ (f : Forecast). f.count) same in
-    let depth : d ≡ network_depth (compiled_records how ks shape.m l) = v.3 ∙ ap (λ (f : Forecast). f.depth) same in
+    let count : g.records ≡ length (compiled_records how ks shape.m l) = v.2 ∙ ap (λ (f : Forecast). f.count) same in
+    let depth : g.depth ≡ network_depth (compiled_records how ks shape.m l) = v.3 ∙ ap (λ (f : Forecast). f.depth) same in
     record {
       count = count;
       depth = depth;

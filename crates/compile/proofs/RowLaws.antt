@@ -7,6 +7,7 @@ use native.Mathlib.Omega.{arith}
 use lib.Dec.{T, leb, leb→le, ltb, eqb, eqb→eq}
 use lib.ListN.{length, take, drop}
 use lib.Seq.{take_at, get_or-take}
+use Rattle.std.specs.Prelude.{Result, Ok, Err}
 use Rattle.rules.specs.declared.Refusal.{Refusal}
 use Rattle.rules.specs.declared.Refusal.TheVariants.{ShapeRange, GradeLimits, ShortBuffer}
 use Rattle.rules.specs.declared.Settings.{Settings}
@@ -14,7 +15,7 @@ use Rattle.rules.specs.Settings.{usual}
 use Rattle.rules.specs.Bytes.{at, all}
 use Rattle.rules.specs.Cell.{cells}
 use Rattle.rules.specs.Limits.{Limits, limits_sound}
-use Rattle.rules.specs.Verdict.{Verdict, accepted, refused, unless, answer_of}
+use Rattle.rules.specs.Verdict.{Verdict, accepted, refused, unless, result_of, outcome_of, says}
 use Rattle.rules.specs.Network.{Record, network_bytes, network_sound, evaluate}
 use Rattle.rules.specs.Demands.{Table, Between, compiled_records, Capped}
 use Rattle.rules.specs.Tree.{size}
@@ -28,35 +29,12 @@ use Rattle.laws.proofs.TableLaws.{all_same}
 use Rattle.laws.proofs.TestLaws.{passes, passed, and_l, and_r, pick_ok, by_order}
 use Rattle.laws.proofs.TreeLaws.{length-records}
 use Rattle.laws.proofs.SizeLaws.{compiled-size}
-use Rattle.laws.proofs.VerdictLaws.{row_passed}
+use Rattle.laws.proofs.VerdictLaws.{row_passed, result-says, ok-err, ok_same, was_ok, was_err}
 use Rattle.shape.specs.declared.Shape.{Shape}
 use Rattle.shape.specs.Shapes.{cards_of, places_of, is_sound}
 use Rattle.shape.proofs.ShapeLaws.{eight-cards, sound-shape}
 use Rattle.stage_steps.specs.declared.gates.Extent.{Extent}
-use Rattle.compile.specs.declared.Judged.TheVariants as judged
-use Rattle.compile.specs.declared.CompileAnswer.{CompileAnswer}
-use Rattle.compile.specs.declared.CompileAnswer.TheVariants.{Records, Refused}
-use Rattle.compile.specs.Compiling.{compile_answer, compile_means, network_after, table_rows, compile_rows, judged_as, KeepsTable, Compiles, Accepted, Recorded}
-
--- two answers
-pub records-refused : {A : Type 0} {n : ℕ} {r : Refusal} → Records n ≡ Refused r → A
-records-refused e = let z : ◌≡◌ {A = ℕ} 0 1 = cc in absurd (omega arith)
-
-pub records-same : {n k : ℕ} → Records n ≡ Records k → n ≡ k
-records-same e = cc
-
-compile_means_lem : (v : Verdict (List Record)) → compile_means (compile_answer v) ≡ answer_of (λ rs. length rs ∷ []) v
-compile_means_lem (accepted rs) = refl
-compile_means_lem (refused q) = refl
-
--- the verdict behind a judgement
-was_sound : (v : Verdict (List Record)) → judged.Sound ≡ judged_as v → (rs : List Record) × (v ≡ accepted rs)
-was_sound (accepted rs) e = (rs, refl)
-was_sound (refused q) e = let z : ◌≡◌ {A = ℕ} 0 1 = cc in absurd (omega arith)
-
-pub was_unsound : (v : Verdict (List Record)) {q : Refusal} → judged.Refused q ≡ judged_as v → v ≡ refused q
-was_unsound (accepted rs) e = let z : ◌≡◌ {A = ℕ} 0 1 = cc in absurd (omega arith)
-was_unsound (refused r) e = cc
+use Rattle.compile.specs.Compiling.{network_after, table_rows, compile_rows, KeepsTable, Compiles, Accepted, Recorded}
 
 -- the most records are few, and as many as a table's network can have
 pub most-few : (c : ℕ) → 1 ≤ c → most_records c ≤ 3 * c
@@ -97,32 +75,15 @@ module _ (shape : Shape) (lower upper : List ℕ) (work network : ℕ) where
   abbrev rs : List Record
   rs = compiled_records usual ks shape.m l
 
-  rows_by : (a b c : Bool) → is_sound shape ≡ a → compile_room (cells ks) (length lower) (length upper) work network ≡ b → limits_sound ks shape.m l ≡ c
-      → table_rows usual shape lower upper work network ≡ unless a ShapeRange (unless b ShortBuffer (unless c GradeLimits (accepted rs)))
-  rows_by a b c p q r = cc
-
-  -- what the code reads off: n cells, and the tests' results
-  pub room_by : {n : ℕ} {q : Bool} → n ≡ cells ks → q ≡ compile_room n (length lower) (length upper) work network → compile_room (cells ks) (length lower) (length upper) work network ≡ q
-  room_by e h = ap (λ (k : ℕ). compile_room k (length lower) (length upper) work network) (sym e) ∙ sym h
-
-  pub limits_by : {n : ℕ} {q : Bool} → n ≡ cells ks → q ≡ all n (λ c. leb (at lower c) (at upper c) && ltb (at upper c) shape.m) → limits_sound ks shape.m l ≡ q
-  limits_by e h = sym (limits-row ks lower upper shape.m) ∙ ap (λ (k : ℕ). all k (λ c. leb (at lower c) (at upper c) && ltb (at upper c) shape.m)) (sym e) ∙ sym h
-
-  -- each way out of the rows
-  pub shape_stop : is_sound shape ≡ false → judged.Refused ShapeRange ≡ judged_as (table_rows usual shape lower upper work network)
-  shape_stop a = sym (ap judged_as (rows_by false _ _ a refl refl))
-
-  pub room_stop : is_sound shape ≡ true → compile_room (cells ks) (length lower) (length upper) work network ≡ false
-      → judged.Refused ShortBuffer ≡ judged_as (table_rows usual shape lower upper work network)
-  room_stop a b = sym (ap judged_as (rows_by true false _ a b refl))
-
-  pub limits_stop : is_sound shape ≡ true → compile_room (cells ks) (length lower) (length upper) work network ≡ true → limits_sound ks shape.m l ≡ false
-      → judged.Refused GradeLimits ≡ judged_as (table_rows usual shape lower upper work network)
-  limits_stop a b c = sym (ap judged_as (rows_by true true false a b c))
-
-  pub no_stop : is_sound shape ≡ true → compile_room (cells ks) (length lower) (length upper) work network ≡ true → limits_sound ks shape.m l ≡ true
-      → judged.Sound ≡ judged_as (table_rows usual shape lower upper work network)
-  no_stop a b c = sym (ap judged_as (rows_by true true true a b c))
+  -- the rows as a function tests them, by the number of cells that it reads off the shape
+  pub judged : {n : ℕ} {r : Result (Unit {0}) Refusal} → n ≡ cells ks
+      → r
+      ≡ outcome_of
+      (unless (is_sound shape) ShapeRange
+      (unless (compile_room n (length lower) (length upper) work network) ShortBuffer
+      (unless (all n (λ c. leb (at lower c) (at upper c) && ltb (at upper c) shape.m)) GradeLimits (accepted rs))))
+      → r ≡ outcome_of (table_rows usual shape lower upper work network)
+  judged e h = let i = limits-row ks lower upper shape.m in cc
 
   -- a table that no row stops
   pub record Passed : Type 0 where
@@ -130,9 +91,9 @@ module _ (shape : Shape) (lower upper : List ℕ) (work network : ℕ) where
     pub network-room : 16 * most_records (cells ks) ≤ network
     pub rows : (how : Settings) → table_rows how shape lower upper work network ≡ accepted (compiled_records how ks shape.m l)
 
-  pub sound_passes : judged.Sound ≡ judged_as (table_rows usual shape lower upper work network) → Passed
-  sound_passes e =
-      let v = was_sound (table_rows usual shape lower upper work network) e in
+  pub sound_passes : {r : Result (Unit {0}) Refusal} {u : Unit {0}} → r ≡ outcome_of (table_rows usual shape lower upper work network) → r ≡ Ok u → Passed
+  sound_passes is e =
+      let v = was_ok (λ xs. tt) (table_rows usual shape lower upper work network) (sym e ∙ is) in
       let a = row_passed (is_sound shape) ShapeRange _ v.1 in
       let b = row_passed (compile_room (cells ks) (length lower) (length upper) work network) ShortBuffer _ a.1 in
       let c = row_passed (limits_sound ks shape.m l) GradeLimits _ b.1 in
@@ -144,19 +105,19 @@ module _ (shape : Shape) (lower upper : List ℕ) (work network : ℕ) where
 
 -- settings change no row
 pub judged-same : (a b : Settings) (shape : Shape) (lower upper : List ℕ) (work network : ℕ)
-    → judged_as (table_rows a shape lower upper work network) ≡ judged_as (table_rows b shape lower upper work network)
+    → outcome_of (table_rows a shape lower upper work network) ≡ outcome_of (table_rows b shape lower upper work network)
 judged-same a b shape lower upper work network =
     go (is_sound shape) (compile_room (cells (places_of shape)) (length lower) (length upper) work network) (limits_sound (places_of shape) shape.m (lent_limits (places_of shape) lower upper)) _ _
   where
     go : (p q r : Bool) (x y : List Record)
-        → judged_as (unless p ShapeRange (unless q ShortBuffer (unless r GradeLimits (accepted x)))) ≡ judged_as (unless p ShapeRange (unless q ShortBuffer (unless r GradeLimits (accepted y))))
+        → outcome_of (unless p ShapeRange (unless q ShortBuffer (unless r GradeLimits (accepted x)))) ≡ outcome_of (unless p ShapeRange (unless q ShortBuffer (unless r GradeLimits (accepted y))))
     go false q r x y = refl
     go true false r x y = refl
     go true true false x y = refl
     go true true true x y = refl
 
 -- settings that are known
-pub compiles_as : {a b : Settings} {shape : Shape} {lower upper work network : List ℕ} {answer : CompileAnswer} {work' network' : List ℕ} → a ≡ b
+pub compiles_as : {a b : Settings} {shape : Shape} {lower upper work network : List ℕ} {answer : Result ℕ Refusal} {work' network' : List ℕ} → a ≡ b
     → Compiles a shape lower upper work network answer work' network' → Compiles b shape lower upper work network answer work' network'
 compiles_as {shape = shape} {lower} {upper} {work} {network} {answer} {work'} {network'} e c = subst (λ (how : Settings). Compiles how shape lower upper work network answer work' network') e c
 
@@ -177,16 +138,18 @@ module _ (how : Settings) (shape : Shape) (lower upper work network : List ℕ) 
   records = compiled_records how (places_of shape) shape.m (lent_limits (places_of shape) lower upper)
 
   -- a refusal
-  pub stops : {r : Refusal} → judged.Refused r ≡ judged_as (compile_rows usual shape lower upper work network) → Compiles how shape lower upper work network (Refused r) work network
-  stops {r} h =
-      let e : rows ≡ refused r = was_unsound rows (h ∙ judged-same usual how shape lower upper (length work) (length network)) in
+  pub stops : {j : Result (Unit {0}) Refusal} {r : Result ℕ Refusal} {q : Refusal} → j ≡ outcome_of (compile_rows usual shape lower upper work network) → j ≡ Err q → r ≡ Err q
+      → Compiles how shape lower upper work network r work network
+  stops {q = q} is h k =
+      let e : rows ≡ refused q = was_err (λ xs. tt) rows (sym h ∙ is ∙ judged-same usual how shape lower upper (length work) (length network)) in
+      let answer = k ∙ sym (ap (λ (v : Verdict (List Record)). result_of length v) e) in
       record {
-        answers = sym (ap compile_answer e);
-        means = ap compile_means (sym (ap compile_answer e)) ∙ compile_means_lem rows;
+        answers = answer;
+        means = ap (says (λ n. n ∷ [])) answer ∙ result-says length (λ n. n ∷ []) rows;
         network-after = sym (ap (λ (v : Verdict (List Record)). network_after v network) e);
         refusal_keeps = λ q h. refl;
         kept = past_same;
-        keeps-table = λ n h. records-refused (sym h);
+        keeps-table = λ n h. ok-err (sym h ∙ k);
       }
 
   -- records
@@ -218,14 +181,14 @@ module _ (how : Settings) (shape : Shape) (lower upper work network : List ℕ) 
           stages = d.stages;
         }
 
-    pub writes : Compiles how shape lower upper work network (Records of.next) work' network'
+    pub writes : Compiles how shape lower upper work network (Ok of.next) work' network'
     writes =
-        let answer : Records of.next ≡ compile_answer rows = ap Records w.count ∙ sym (ap compile_answer (ok.rows how)) in
+        let answer : ◌≡◌ {A = Result ℕ Refusal} (Ok of.next) (result_of length rows) = ap Ok w.count ∙ sym (ap (λ (v : Verdict (List Record)). result_of length v) (ok.rows how)) in
         record {
           answers = answer;
-          means = ap compile_means answer ∙ compile_means_lem rows;
+          means = ap (says (λ n. n ∷ [])) answer ∙ result-says length (λ n. n ∷ []) rows;
           network-after = bytes ∙ sym (ap (λ (v : Verdict (List Record)). network_after v network) (ok.rows how));
-          refusal_keeps = λ q h. records-refused h;
+          refusal_keeps = λ q h. ok-err h;
           kept = w.kept;
-          keeps-table = λ k h. subst (λ (j : ℕ). KeepsTable how shape lower upper j network') (records-same h) table_kept;
+          keeps-table = λ k h. subst (λ (j : ℕ). KeepsTable how shape lower upper j network') (ok_same h) table_kept;
         }

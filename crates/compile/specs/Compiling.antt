@@ -1,10 +1,10 @@
 -- What `compile` promises.
-use Rattle.std.specs.Prelude.{ℕ, ◌-◌, ◌*◌, ◌≤◌, ◌≡◌, true, List, ◌++◌, [], ◌∷◌, T, length, take, drop}
+use Rattle.std.specs.Prelude.{ℕ, ◌-◌, ◌*◌, ◌≤◌, ◌≡◌, true, List, ◌++◌, [], ◌∷◌, T, Result, Ok, Err, length, take, drop}
 use Rattle.rules.specs.declared.Refusal.{Refusal}
 use Rattle.rules.specs.declared.Settings.{Settings}
 use Rattle.rules.specs.Cell.{cells}
 use Rattle.rules.specs.Limits.{limits_of, limits_sound}
-use Rattle.rules.specs.Verdict.{Verdict, accepted, refused, Answer, granted, denied, answer_of}
+use Rattle.rules.specs.Verdict.{Verdict, accepted, refused, result_of, says, answer_of}
 use Rattle.rules.specs.Network.{Record, network_bytes, network_sound, evaluate}
 use Rattle.rules.specs.Demands.{Inside, Capped, EveryStage, compiled_records, Compiled}
 use Rattle.rules.specs.CompileCall.{compile_work, table_room, lent_limits, compile_call}
@@ -13,22 +13,8 @@ use Rattle.rules.specs.Bytes.{Past}
 use Rattle.shape.specs.declared.Shape.{Shape}
 use Rattle.shape.specs.Shapes.{cards_of, places_of, is_sound}
 use Rattle.stage_steps.specs.declared.gates.Extent.{Extent}
-use Rattle.compile.specs.declared.Judged.{Judged}
-use Rattle.compile.specs.declared.Judged.TheVariants as judged
-use Rattle.compile.specs.declared.CompileAnswer.{CompileAnswer}
-use Rattle.compile.specs.declared.CompileAnswer.TheVariants.{Records, Refused}
 
--- the answer to a verdict: how many records were written, or the refusal
-abbrev pub compile_answer : Verdict (List Record) → CompileAnswer
-compile_answer (accepted rs) = Records (length rs)
-compile_answer (refused r) = Refused r
-
--- what it says in 01's numbers
-abbrev pub compile_means : CompileAnswer → Answer
-compile_means (Records n) = granted (n ∷ [])
-compile_means (Refused r) = denied r
-
--- the network buffer after it: the records and what lay behind them, or all as it was
+-- the network buffer after a call: the records and what lay behind them, or all as it was
 abbrev pub network_after : Verdict (List Record) → List ℕ → List ℕ
 network_after (accepted rs) network = network_bytes rs ++ drop (16 * length rs) network
 network_after (refused r) network = network
@@ -40,11 +26,6 @@ table_rows how shape lower upper work network =
 
 abbrev pub compile_rows : Settings → Shape → List ℕ → List ℕ → List ℕ → List ℕ → Verdict (List Record)
 compile_rows how shape lower upper work network = table_rows how shape lower upper (length work) (length network)
-
--- whether they let a table pass
-abbrev pub judged_as : Verdict (List Record) → Judged
-judged_as (accepted rs) = judged.Sound
-judged_as (refused r) = judged.Refused r
 
 -- the first n records of a buffer, as bytes
 abbrev pub written : ℕ → List ℕ → List ℕ
@@ -63,15 +44,15 @@ pub record KeepsTable (how : Settings) (shape : Shape) (lower upper : List ℕ) 
   pub most : 2 ≤ cells (places_of shape) → n ≤ 3 * cells (places_of shape) - 5
   pub stages : EveryStage how (places_of shape) shape.m (lent_limits (places_of shape) lower upper)
 
--- the answer and every byte of the network buffer by the rows of document 01, for every shape and all buffers; a refusal leaves the
--- work buffer too, and nothing changes its length or its bytes past those that it asks for; records are what demand 3 asks for
-pub record Compiles (how : Settings) (shape : Shape) (lower upper work network : List ℕ) (answer : CompileAnswer) (work' network' : List ℕ) : Type 0 where
-  pub answers : answer ≡ compile_answer (compile_rows how shape lower upper work network)
-  pub means : compile_means answer ≡ answer_of (λ rs. length rs ∷ []) (compile_rows how shape lower upper work network)
+-- the answer, which is how many records were written, and every byte of the network buffer by the rows of document 01, for every shape
+-- and all buffers; a refusal leaves the work buffer too, and nothing changes its length or its bytes past those that it asks for; records are what demand 3 asks for
+pub record Compiles (how : Settings) (shape : Shape) (lower upper work network : List ℕ) (answer : Result ℕ Refusal) (work' network' : List ℕ) : Type 0 where
+  pub answers : answer ≡ result_of length (compile_rows how shape lower upper work network)
+  pub means : says (λ n. n ∷ []) answer ≡ answer_of (λ rs. length rs ∷ []) (compile_rows how shape lower upper work network)
   pub network-after : network' ≡ network_after (compile_rows how shape lower upper work network) network
-  pub refusal_keeps : (r : Refusal) → answer ≡ Refused r → work' ≡ work
+  pub refusal_keeps : (r : Refusal) → answer ≡ Err r → work' ≡ work
   pub kept : Past (compile_work (cells (places_of shape))) work work'
-  pub keeps-table : (n : ℕ) → answer ≡ Records n → KeepsTable how shape lower upper n network'
+  pub keeps-table : (n : ℕ) → answer ≡ Ok n → KeepsTable how shape lower upper n network'
 
 -- a table that no row stops, with a work buffer of this length
 pub record Accepted (shape : Shape) (lower upper : List ℕ) (work : ℕ) : Type 0 where

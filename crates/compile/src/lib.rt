@@ -3,8 +3,9 @@
 
 ghost use Rattle.std.specs.Prelude.{◌*◌, ◌≤◌, ◌≡◌, length};
 ghost use Rattle.rules.specs.Settings.{usual, settings_of};
+ghost use Rattle.rules.specs.Verdict.{outcome_of};
 ghost use Rattle.rules.specs.CompileCall.{most_records, compile_room};
-ghost use Rattle.compile.specs.Compiling.{table_rows, judged_as, Accepted, Recorded, Compiles};
+ghost use Rattle.compile.specs.Compiling.{table_rows, Accepted, Recorded, Compiles};
 ghost use Rattle.compile.specs.Forecasting.{Forecasts};
 
 use rules::{RECORD, Refusal, Settings};
@@ -13,32 +14,18 @@ use stage_steps::gates::Extent;
 use stages::Begin;
 use tables::{fill, limits};
 
+// What a network has: how many records, and the depth of gates under the last one.
 #[derive(Clone, Copy)]
-pub enum CompileAnswer {
-    // How many records were written.
-    Records(usize),
-    Refused(Refusal),
-}
-
-#[derive(Clone, Copy)]
-pub enum ForecastAnswer {
-    // How many records the network has, and the depth of gates under the last one.
-    Figures { records: usize, depth: usize },
-    Refused(Refusal),
-}
-
-// What the rows say of a table.
-#[derive(Clone, Copy)]
-enum Judged {
-    Sound,
-    Refused(Refusal),
+pub struct Figures {
+    pub records: usize,
+    pub depth: usize,
 }
 
 // The bytes of the work buffer for each cell.
 const WORK: usize = 32;
 
 // Writes the network of a table, grown under settings. The work buffer has 32 bytes for each cell, the network
-// buffer 16 for each of the most records that there can be.
+// buffer 16 for each of the most records that there can be. The answer is how many records were written.
 pub fn compile_with(
     shape: Shape,
     lower: &[u8],
@@ -46,17 +33,13 @@ pub fn compile_with(
     how: Settings,
     work: &mut [u8],
     network: &mut [u8],
-) -> CompileAnswer
+) -> Result<usize, Refusal>
     ensures { Compiles how shape lower.now upper.now work.old network.old result work.new network.new }
 {
-    match judge(shape, lower, upper, work.len(), network.len()) {
-        Judged::Refused(refusal) => CompileAnswer::Refused(refusal),
-        Judged::Sound => {
-            let byte = settings::to_byte(how);
-            let of = build(shape, lower, upper, byte, work, network);
-            CompileAnswer::Records(of.next)
-        }
-    }
+    judge(shape, lower, upper, work.len(), network.len())?;
+    let byte = settings::to_byte(how);
+    let of = build(shape, lower, upper, byte, work, network);
+    Ok(of.next)
 }
 
 // The same under the usual settings.
@@ -66,7 +49,7 @@ pub fn compile(
     upper: &[u8],
     work: &mut [u8],
     network: &mut [u8],
-) -> CompileAnswer
+) -> Result<usize, Refusal>
     ensures { Compiles usual shape lower.now upper.now work.old network.old result work.new network.new }
 {
     compile_with(shape, lower, upper, settings::usual(), work, network)
@@ -80,45 +63,51 @@ pub fn forecast_with(
     upper: &[u8],
     how: Settings,
     work: &mut [u8],
-) -> ForecastAnswer
+) -> Result<Figures, Refusal>
     ensures { Forecasts how shape lower.now upper.now work.old result work.new }
 {
-    match judge(shape, lower, upper, work.len(), longest_network()) {
-        Judged::Refused(refusal) => ForecastAnswer::Refused(refusal),
-        Judged::Sound => {
-            let byte = settings::to_byte(how);
-            let mut none = [0u8; 0];
-            let of = build(shape, lower, upper, byte, work, &mut none);
-            ForecastAnswer::Figures {
-                records: of.next,
-                depth: of.depth,
-            }
-        }
-    }
+    judge(shape, lower, upper, work.len(), longest_network())?;
+    let byte = settings::to_byte(how);
+    let of = build(shape, lower, upper, byte, work, &mut []);
+    Ok(Figures {
+        records: of.next,
+        depth: of.depth,
+    })
 }
 
 // The same under the usual settings.
-pub fn forecast(shape: Shape, lower: &[u8], upper: &[u8], work: &mut [u8]) -> ForecastAnswer
+pub fn forecast(
+    shape: Shape,
+    lower: &[u8],
+    upper: &[u8],
+    work: &mut [u8],
+) -> Result<Figures, Refusal>
     ensures { Forecasts usual shape lower.now upper.now work.old result work.new }
 {
     forecast_with(shape, lower, upper, settings::usual(), work)
 }
 
 // Rows 4, 10 and 5, with the lengths of the work and the network buffer. Settings change none of them.
-fn judge(shape: Shape, lower: &[u8], upper: &[u8], work: usize, network: usize) -> Judged
-    ensures { result ≡ judged_as (table_rows usual shape lower.now upper.now work network) }
+fn judge(
+    shape: Shape,
+    lower: &[u8],
+    upper: &[u8],
+    work: usize,
+    network: usize,
+) -> Result<(), Refusal>
+    ensures { result ≡ outcome_of (table_rows usual shape lower.now upper.now work network) }
 {
     if !shape.sound() {
-        return Judged::Refused(Refusal::ShapeRange);
+        return Err(Refusal::ShapeRange);
     }
     let cells = shape.cells();
     if !has_room(cells, lower.len(), upper.len(), work, network) {
-        return Judged::Refused(Refusal::ShortBuffer);
+        return Err(Refusal::ShortBuffer);
     }
-    if limits::limits_sound(lower, upper, shape.m, cells) {
-        return Judged::Sound;
+    if !limits::limits_sound(lower, upper, shape.m, cells) {
+        return Err(Refusal::GradeLimits);
     }
-    Judged::Refused(Refusal::GradeLimits)
+    Ok(())
 }
 
 fn most_records(cells: usize) -> usize
@@ -140,16 +129,10 @@ fn has_room(cells: usize, lower: usize, upper: usize, work: usize, network: usiz
     requires { (1 ≤ cells) × (cells ≤ 1024) }
     ensures { result ≡ compile_room cells lower upper work network }
 {
-    if lower < cells {
-        return false;
-    }
-    if upper < cells {
-        return false;
-    }
-    if work < WORK * cells {
-        return false;
-    }
-    RECORD * most_records(cells) <= network
+    cells <= lower
+        && cells <= upper
+        && WORK * cells <= work
+        && RECORD * most_records(cells) <= network
 }
 
 // The stages of a table that no row stops. Its limits go to the front of the work buffer, where the first stage

@@ -7,8 +7,11 @@
 // byte.
 #![tactic(auto)]
 
-use compile::{CompileAnswer, ForecastAnswer};
+ghost use Rattle.std.specs.Prelude.{◌<◌};
+
+use compile::Figures;
 use printing::{number, refused, text};
+use rules::Refusal;
 use shape::Shape;
 
 // The bytes of a record, and of the work for a cell.
@@ -28,64 +31,61 @@ fn show_byte(x: u8) {
 // The last of so many records.
 fn show_last(network: &[u8], count: usize) {
     text(b", last");
-    for i in 0..network.len() {
+    for (i, &byte) in network.iter().enumerate() {
         if i / RECORD + 1 == count {
-            show_byte(network[i]);
+            show_byte(byte);
         }
     }
 }
 
-// Which record's byte i of a network buffer is, or which cell's it is of the work buffer.
-fn number_of(i: usize, work: bool) -> usize {
-    if work { i / WORK } else { i / RECORD }
+// Whether all bytes past those of so many records, or of the work for so many cells, still hold 99. Each has `unit` bytes.
+fn kept(buffer: &[u8], unit: usize, count: usize) -> bool
+    requires { 0 < unit }
+{
+    buffer
+        .chunks(unit)
+        .skip(count)
+        .all(|bytes| bytes.iter().all(|&byte| byte == 99))
 }
 
-// Whether all bytes past those of so many records, or of the work for so many cells, still hold 99.
-fn kept(buffer: &[u8], count: usize, work: bool) -> bool {
-    for i in 0..buffer.len() {
-        if count <= number_of(i, work) && buffer[i] != 99 {
-            return false;
-        }
-    }
-    true
-}
-
-fn show_kept(name: &[u8], buffer: &[u8], count: usize, work: bool) {
+fn show_kept(name: &[u8], buffer: &[u8], unit: usize, count: usize)
+    requires { 0 < unit }
+{
     text(name);
-    if kept(buffer, count, work) {
+    if kept(buffer, unit, count) {
         text(b" kept");
     } else {
         text(b" changed");
     }
 }
 
-fn show_answer(answer: CompileAnswer, shape: Shape, work: &[u8], network: &[u8]) {
+fn show_answer(answer: Result<usize, Refusal>, shape: Shape, work: &[u8], network: &[u8]) {
     match answer {
-        CompileAnswer::Refused(refusal) => {
+        Err(refusal) => {
             refused(refusal);
-            show_kept(b", work", work, 0, true);
-            show_kept(b", network", network, 0, false);
+            show_kept(b", work", work, WORK, 0);
+            show_kept(b", network", network, RECORD, 0);
         }
-        CompileAnswer::Records(count) => {
+        Ok(count) => {
             show_number(b"records ", count);
             show_last(network, count);
-            show_kept(b", work", work, shape.cells(), true);
-            show_kept(b", network", network, count, false);
+            show_kept(b", work", work, WORK, shape.cells());
+            show_kept(b", network", network, RECORD, count);
         }
     }
 }
 
-fn show_forecast(answer: ForecastAnswer, shape: Shape, work: &[u8]) {
+fn show_forecast(answer: Result<Figures, Refusal>, shape: Shape, work: &[u8]) {
     text(b"; forecast ");
     match answer {
-        ForecastAnswer::Refused(refusal) => {
+        Err(refusal) => {
             refused(refusal);
-            show_kept(b", work", work, 0, true);
+            show_kept(b", work", work, WORK, 0);
         }
-        ForecastAnswer::Figures { records, depth } => {
+        Ok(Figures { records, depth }) => {
             show_number(b"records ", records);
             show_number(b", depth ", depth);
-            show_kept(b", work", work, shape.cells(), true);
+            show_kept(b", work", work, WORK, shape.cells());
         }
     }
 }
@@ -120,17 +120,15 @@ fn attempt(
 ) {
     let mut work = [99u8; 32768];
     let mut network = [99u8; 49072];
-    if work_room <= 32768 {
-        if network_room <= 49072 {
-            compile_into(
-                name,
-                shape,
-                lower,
-                upper,
-                &mut work[0..work_room],
-                &mut network[0..network_room],
-            );
-        }
+    if work_room <= 32768 && network_room <= 49072 {
+        compile_into(
+            name,
+            shape,
+            lower,
+            upper,
+            &mut work[..work_room],
+            &mut network[..network_room],
+        );
     }
 }
 
@@ -156,7 +154,7 @@ fn next(grade: u8, top: u8) -> u8 {
 
 // One condition more, whose values lie a step apart: each has the grade that comes next after that
 // of the value before. From zeros, with the conditions by rising step, a cell's grade is then the sum
-// of its values modulo top + 1.
+// of its values modulo top + 1. By index: a grade is read that was written a step before, in the same table.
 fn add_condition(grades: &mut [u8], step: usize, top: u8) {
     for c in step..grades.len() {
         grades[c] = next(grades[c - step], top);

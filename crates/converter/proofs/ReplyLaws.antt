@@ -3,81 +3,58 @@ use Prim.Native.Nat.{ℕ, ◌≤◌, ◌<◌}
 use mathlib.Core.Path.{◌≡◌, sym, ◌∙◌, ap, subst}
 use mathlib.Core.List.{List, []}
 use native.Mathlib.Nat.{le_refl}
-use native.Mathlib.Omega.{arith}
 use lib.ListN.{length, take}
 use Rattle.std.proofs.Common.{None, Some, IfSome}
+use Rattle.std.specs.Prelude.{Result, Ok, Err}
 use Rattle.std.specs.declared.option.Option.{Option}
 use Rattle.std.specs.Io.KnownBytes.{Appends}
 use Rattle.std.proofs.KnownBytes.{Appends-nil}
-use Rattle.io.specs.Counts.{IsPrefixLen}
 use Rattle.rules.specs.declared.Edition.{Edition}
-use Rattle.rules.specs.declared.Outcome.{Outcome}
-use Rattle.rules.specs.declared.Outcome.TheVariants as outcomes
-use Rattle.rules.specs.declared.Refusal as refusals
+use Rattle.rules.specs.declared.Refusal.{Refusal}
 use Rattle.rules.specs.Editions.{convert_call}
 use Rattle.rules.specs.Listing.{Said, said, turned_from, refusal_line}
-use Rattle.laws.proofs.VerdictLaws.{was_written, was_refused}
+use Rattle.laws.proofs.VerdictLaws.{was_ok, was_err}
 use Rattle.editions.specs.Converting.{Converts}
 use Rattle.editions.proofs.EditionLaws.{with_room}
 use Rattle.listing.specs.Putting.{Put}
 use Rattle.listing.proofs.LongLaws.{front_turned}
-use Rattle.listing.proofs.PutLaws.{put-fits, put-taken, put_front}
-use Rattle.streams.specs.declared.Input.TheVariants as inputs
+use Rattle.listing.proofs.PutLaws.{put_front}
 use Rattle.streams.specs.Filling.{Takes}
-use Rattle.converter.specs.declared.Reply.{Reply}
-use Rattle.converter.specs.declared.Reply.TheVariants.{File, Refusal}
-use Rattle.converter.specs.Replying.{taken, sent, Replies, Says}
+use Rattle.converter.specs.Replying.{Says}
 
--- a known reply
-pub reply_counts : {e : Edition} {file : List ℕ} {r : Reply} {buffer : List ℕ} (s : Reply) → r ≡ s → Replies e file r buffer → IsPrefixLen (taken s) buffer
-reply_counts {e} {file} {r} {buffer} s q p = subst (λ (x : Reply). IsPrefixLen (taken x) buffer) q p.counts
-
-module _ {e : Edition} {file out : List ℕ} {r : Outcome} {out' : List ℕ} (c : Converts e file out r out') (room : length file ≤ length out) where
+-- what a program writes, of a file whose verdict is known
+module _ {e : Edition} {file out : List ℕ} {answer : Result (Unit {0}) Refusal} {out' : List ℕ} (c : Converts e file out answer out') (room : length file ≤ length out) where
   -- an output that is longer than the file makes no difference
   same-room : convert_call e file (length out) ≡ convert_call e file (length file)
   same-room = with_room e file (length out) room ∙ sym (with_room e file (length file) (le_refl (length file)))
 
-  pub file_replied : r ≡ outcomes.Written → length out' ≡ length out → Replies e file (File (length file)) out'
-  file_replied q long =
-      let v = was_written (convert_call e file (length out)) (sym q ∙ c.answer) in
+  pub file_said : {o o' r : Option (List ℕ)} → answer ≡ Ok tt → Appends o o' (take (length file) out') → Says e file o o' r r
+  file_said {o} {o'} {r} q w =
+      let v = was_ok (λ turned. tt) (convert_call e file (length out)) (sym q ∙ c.answer) in
+      let same = ap (λ (x : List ℕ). record { output = x; error = [] }) (c.front v.0 v.1) ∙ sym (ap said (sym same-room ∙ v.1)) in
       record {
-        counts = (omega arith, sym (c.converted q).as_long);
-        says = ap (λ (x : List ℕ). record { output = x; error = [] }) (c.front v.0 v.1) ∙ sym (ap said (sym same-room ∙ v.1));
+        written = subst (λ (x : Said). Appends o o' x.output) same w;
+        complained = subst (λ (x : Said). Appends r r x.error) same (Appends-nil r);
       }
 
-  pub refusal_replied : {q : refusals.Refusal} {n : ℕ} {buffer : List ℕ} → r ≡ outcomes.Refused q → Put out' 0 (refusal_line q) 14 n buffer → 14 ≤ length buffer → Replies e file (Refusal n) buffer
-  refusal_replied {q} {n} {buffer} h p long =
+  pub refusal_said : {q : Refusal} {n : ℕ} {buffer : List ℕ} {o r r' : Option (List ℕ)} → answer ≡ Err q → Put out' 0 (refusal_line q) 14 n buffer → 14 ≤ length buffer
+      → Appends r r' (take n buffer) → Says e file o o r r'
+  refusal_said {q} {n} {buffer} {o} {r} {r'} h p long w =
+      let same =
+      ap (λ (x : List ℕ). record { output = []; error = x }) (put_front p long)
+      ∙ sym (ap said (sym same-room ∙ was_err (λ turned. tt) (convert_call e file (length out)) (sym h ∙ c.answer))) in
       record {
-        counts = (put-fits p long, put-taken p long);
-        says = ap (λ (x : List ℕ). record { output = []; error = x }) (put_front p long) ∙ sym (ap said (sym same-room ∙ was_refused (convert_call e file (length out)) (sym h ∙ c.answer)));
+        written = subst (λ (x : Said). Appends o o x.output) same (Appends-nil o);
+        complained = subst (λ (x : Said). Appends r r' x.error) same w;
       }
 
 -- what is said of the file that a buffer was filled with is said of the whole input
 pub input_said : {e : Edition} (known : Option (List ℕ)) (n : ℕ) (buffer : List ℕ) {o o' r r' : Option (List ℕ)} → 16528 < length buffer
-    → Takes known (inputs.File n) buffer → Says e (take n buffer) o o' r r' → IfSome known (λ (file : List ℕ). Says e file o o' r r')
+    → Takes known (Ok n) buffer → Says e (take n buffer) o o' r r' → IfSome known (λ (file : List ℕ). Says e file o o' r r')
 input_said None n buffer long t s = tt
 input_said {e} (Some file) n buffer {o} {o'} {r} {r'} long t s =
     let same : turned_from e (take n buffer) ≡ turned_from e file = ap (turned_from e) t ∙ front_turned (length buffer) file long e in
     record {
       written = subst (λ (x : Said). Appends o o' x.output) same s.written;
       complained = subst (λ (x : Said). Appends r r' x.error) same s.complained;
-    }
-
--- a reply that was written to its end
-pub file_said : {e : Edition} {file : List ℕ} {a : Reply} {n : ℕ} {buffer : List ℕ} {o o' r : Option (List ℕ)} → a ≡ File n → Replies e file a buffer
-    → Appends o o' (take n buffer) → Says e file o o' r r
-file_said {e} {file} {a} {n} {buffer} {o} {o'} {r} q p w =
-    let same = subst (λ (x : Reply). sent x buffer ≡ turned_from e file) q p.says in
-    record {
-      written = subst (λ (x : Said). Appends o o' x.output) same w;
-      complained = subst (λ (x : Said). Appends r r x.error) same (Appends-nil r);
-    }
-
-pub refusal_said : {e : Edition} {file : List ℕ} {a : Reply} {n : ℕ} {buffer : List ℕ} {o r r' : Option (List ℕ)} → a ≡ Refusal n → Replies e file a buffer
-    → Appends r r' (take n buffer) → Says e file o o r r'
-refusal_said {e} {file} {a} {n} {buffer} {o} {r} {r'} q p w =
-    let same = subst (λ (x : Reply). sent x buffer ≡ turned_from e file) q p.says in
-    record {
-      written = subst (λ (x : Said). Appends o o x.output) same (Appends-nil o);
-      complained = subst (λ (x : Said). Appends r r' x.error) same w;
     }

@@ -1,33 +1,14 @@
 // The programs that turn a table file into the other edition.
 #![tactic(auto)]
 
-ghost use Rattle.std.specs.Prelude.{◌≡◌, ◌≤◌, length, OnOk, IfSome, Err};
+ghost use Rattle.std.specs.Prelude.{◌≡◌, OnOk, IfSome, Err};
 ghost use Rattle.std.specs.Io.KnownBytes.{Keeps};
-ghost use Rattle.converter.specs.Replying.{Replies, Says};
+ghost use Rattle.converter.specs.Replying.{Says};
 ghost use Rattle.converter.specs.declared.Failure.{Failure};
 
-use rules::{Edition, Outcome};
+use rules::Edition;
 use std::io::{Read, Write};
-use streams::{INPUT, Input};
-
-// What a program writes: so many bytes of a buffer.
-#[derive(Clone, Copy)]
-pub enum Reply {
-    // The file, on standard output.
-    File(usize),
-    // A refusal's line, on standard error.
-    Refusal(usize),
-}
-
-fn answer(out: &mut [u8], file: &[u8], edition: Edition) -> Reply
-    requires { (length file.now ≤ length out.old) × (14 ≤ length out.old) }
-    ensures { Replies edition file.now result out.new }
-{
-    match editions::convert(file, out, edition) {
-        Outcome::Refused(refusal) => Reply::Refusal(listing::put_refusal(out, refusal)),
-        Outcome::Written => Reply::File(file.len()),
-    }
-}
+use streams::INPUT;
 
 // What kept a program from answering.
 #[derive(Clone, Copy)]
@@ -40,7 +21,16 @@ pub enum Failure {
     Unsaid,
 }
 
-// A program for files of the given edition, but for its complaints.
+impl From<streams::Unread> for Failure {
+    ghost from_gives = { λ _ failure. failure ≡ Failure.Unread };
+
+    fn from(_unread: streams::Unread) -> Failure {
+        Failure::Unread
+    }
+}
+
+// A program for files of the given edition, but for its complaints: the file goes to standard output, or a refusal's
+// line to standard error.
 pub fn turn<R: Read, W: Write, E: Write>(
     stdin: &mut R,
     stdout: &mut W,
@@ -55,18 +45,15 @@ pub fn turn<R: Read, W: Write, E: Write>(
 {
     let mut file = [0u8; INPUT];
     let mut out = [0u8; INPUT];
-    match streams::read_file(stdin, &mut file) {
-        Input::Unread => Err(Failure::Unread),
-        Input::File(len) => match answer(&mut out, &file[..len], edition) {
-            Reply::Refusal(n) => match stderr.write_all(&out[..n]) {
-                Ok(()) => Ok(()),
-                Err(_) => Err(Failure::Unsaid),
-            },
-            Reply::File(n) => match stdout.write_all(&out[..n]) {
-                Ok(()) => Ok(()),
-                Err(_) => Err(Failure::Unwritten),
-            },
-        },
+    let len = streams::read_file(stdin, &mut file)?;
+    match editions::convert(&file[..len], &mut out, edition) {
+        Ok(()) => stdout
+            .write_all(&out[..len])
+            .map_err(|_| Failure::Unwritten),
+        Err(refusal) => {
+            let n = listing::put_refusal(&mut out, refusal);
+            stderr.write_all(&out[..n]).map_err(|_| Failure::Unsaid)
+        }
     }
 }
 

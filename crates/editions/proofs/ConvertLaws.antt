@@ -3,24 +3,21 @@ use Prim.Native.Nat.{ℕ, ◌+◌, ◌-◌, ◌*◌, ◌/◌, ◌≤◌, ◌<◌
 use mathlib.Core.Path.{◌≡◌, refl, sym, ◌∙◌, ap, ap₂, subst}
 use mathlib.Core.List.{List, [], ◌∷◌, ◌++◌, append_assoc}
 use native.Mathlib.Omega.{arith}
-use borrow.Author.Tests.{lt-leb}
 use borrow.Rule.Slice.PartMut.{put_mid, Post-is}
 use lib.Dec.{T, leb}
-use lib.ListN.{length, take, drop, set, length-append, length-drop}
-use lib.Seq.{take_at, drop_at, take-length, drop-drop}
+use Rattle.std.specs.Prelude.{Ok}
+use lib.ListN.{length, take, drop, set}
+use lib.Seq.{take_at, drop_at, drop-drop}
 use Rattle.rules.specs.declared.Edition.{Edition}
 use Rattle.rules.specs.declared.Edition.TheVariants.{Ours, Spreadsheet}
-use Rattle.rules.specs.declared.Outcome.TheVariants.{Written, Refused}
-use Rattle.rules.specs.declared.Refusal.{Refusal}
 use Rattle.rules.specs.declared.Refusal.TheVariants.{ShortBuffer}
 use Rattle.rules.specs.Bytes.{at, record_at, map_records, word}
-use Rattle.rules.specs.Verdict.{Verdict, accepted, refused, unless, and_then, answer_of, outcome_of}
-use Rattle.rules.specs.TableFile.{Seen, cell_kind, cell_sound, judge_file}
+use Rattle.rules.specs.Verdict.{Verdict, accepted, unless, and_then, answer_of, outcome_of}
+use Rattle.rules.specs.TableFile.{Seen, cell_sound, judge_file}
 use Rattle.rules.specs.Editions.{record_as_other, file_as_other, convert_call, Converted}
-use Rattle.laws.proofs.VerdictLaws.{row_passed, row_stop, then_passed, accepted-same, outcome_means_lem, was_written}
+use Rattle.laws.proofs.VerdictLaws.{row_passed, then_passed, accepted-same, result-says, was_ok}
 use Rattle.laws.proofs.GradeSetLaws.{span-some, sound_spans}
-use Rattle.laws.proofs.RecordLaws.{record_length, record_front, map_next, map-length, map-front}
-use Rattle.tables.specs.Part.{part}
+use Rattle.laws.proofs.RecordLaws.{record_length, map_next, map-length}
 use Rattle.table_file.proofs.FileLaws.{accepted_file, limits_in, all-records, few-grades}
 use Rattle.editions.specs.Converting.{Turnable, AllTurnable, out_after, Converts}
 use Rattle.editions.proofs.EditionLaws.{with_room, other_length, converted}
@@ -33,37 +30,25 @@ four-sets (a ∷ b ∷ []) w x y z h = absurd (omega arith)
 four-sets (a ∷ b ∷ c ∷ []) w x y z h = absurd (omega arith)
 four-sets (a ∷ b ∷ c ∷ d ∷ r) w x y z h = refl
 
--- the first k records of a buffer are turned, and the rest is as it was
-module _ (e : Edition) (w : List ℕ) where
+-- the first k records of a file, turned, at the front of a buffer that was w
+module _ (e : Edition) (file w : List ℕ) where
   abbrev pub turned : ℕ → List ℕ
-  turned k = map_records (record_as_other e) w 0 k
+  turned k = map_records (record_as_other e) file 0 k
 
-  turned-length : (k : ℕ) → 16 * k ≤ length w → length (turned k) ≡ 16 * k
-  turned-length k h = map-length (record_as_other e) w 0 k (λ j a b. other_length e (record_at w j) (record_length w j (omega arith)))
+  turned-length : (k : ℕ) → 16 * k ≤ length file → length (turned k) ≡ 16 * k
+  turned-length k h = map-length (record_as_other e) file 0 k (λ j a b. other_length e (record_at file j) (record_length file j (omega arith)))
 
-  module _ (k : ℕ) (out : List ℕ) (is : out ≡ turned k ++ drop (16 * k) w) (room : 16 * k ≤ length w) where
-    pub out-length : length out ≡ length w
-    out-length = ap length is ∙ length-append (turned k) (drop (16 * k) w) ∙ omega (arith, turned-length k room, length-drop (16 * k) w)
-
-    behind : drop (16 * k) out ≡ drop (16 * k) w
-    behind = ap (drop (16 * k)) is ∙ drop_at (turned k) (drop (16 * k) w) (16 * k) (turned-length k room)
-
-    pub next_record : record_at out k ≡ record_at w k
-    next_record = ap (take 16) behind
-
+  module _ (k : ℕ) (out : List ℕ) (is : out ≡ turned k ++ drop (16 * k) w) (more : 16 * k + 16 ≤ length file) where
     -- one more
-    pub turned-next : (r : List ℕ) → r ≡ record_as_other e (record_at w k) → put_mid (16 * k) (16 * k + 16 - 16 * k) out r ≡ turned (k + 1) ++ drop (16 * (k + 1)) w
+    pub turned-next : (r : List ℕ) → r ≡ record_as_other e (record_at file k) → put_mid (16 * k) (16 * k + 16 - 16 * k) out r ≡ turned (k + 1) ++ drop (16 * (k + 1)) w
     turned-next r q =
         let a : 16 * k + 16 ≡ 16 * (k + 1) = omega arith in
-        ap₂ (λ (x y : List ℕ). x ++ (r ++ y)) (ap (take (16 * k)) is ∙ take_at (turned k) (drop (16 * k) w) (16 * k) (turned-length k room))
+        let long : length (turned k) ≡ 16 * k = turned-length k (omega arith) in
+        let behind : drop (16 * k) out ≡ drop (16 * k) w = ap (drop (16 * k)) is ∙ drop_at (turned k) (drop (16 * k) w) (16 * k) long in
+        ap₂ (λ (x y : List ℕ). x ++ (r ++ y)) (ap (take (16 * k)) is ∙ take_at (turned k) (drop (16 * k) w) (16 * k) long)
         (Post-is (16 * k) (16 * k + 16) out (omega arith) ∙ sym (drop-drop 16 (16 * k) out) ∙ ap (drop 16) behind ∙ drop-drop 16 (16 * k) w ∙ ap (λ (i : ℕ). drop i w) a)
         ∙ sym (append_assoc (turned k) r (drop (16 * (k + 1)) w))
-        ∙ ap (λ (x : List ℕ). x ++ drop (16 * (k + 1)) w) (ap (λ (x : List ℕ). turned k ++ x) q ∙ sym (map_next (record_as_other e) w k))
-
--- a file copied whole to a buffer's front
-pub copied : (file rest : List ℕ) → part file 0 (length file) ++ rest ≡ file ++ rest
-unfolding part
-copied file rest = ap (λ (f : List ℕ). f ++ rest) (take-length file)
+        ∙ ap (λ (x : List ℕ). x ++ drop (16 * (k + 1)) w) (ap (λ (x : List ℕ). turned k ++ x) q ∙ sym (map_next (record_as_other e) file k))
 
 -- what reading accepts can be turned
 turnable : (e : Edition) (m : ℕ) (r : List ℕ) → m ≤ 16 → T (cell_sound e m r) → Turnable e r
@@ -74,16 +59,8 @@ module _ (e : Edition) (file : List ℕ) (s : Seen) (q : judge_file e file ≡ a
   pub whole : 16 * (length file / 16) ≡ length file
   whole = all-records (accepted_file e file s q)
 
-  -- it and what it is turned into, at a buffer's front
-  pub all_turnable : (rest : List ℕ) → AllTurnable e (file ++ rest) (length file / 16)
-  all_turnable rest k h =
-      let a = accepted_file e file s q in
-      subst (λ (r : List ℕ). at r 0 ≡ cell_kind e → Turnable e r) (sym (record_front file rest k (omega arith)))
-      (λ y. turnable e s.m (record_at file k) (few-grades a) ((a.cells k h).sound y))
-
-  pub turned_file : (rest : List ℕ) → map_records (record_as_other e) (file ++ rest) 0 (length file / 16) ++ drop (16 * (length file / 16)) (file ++ rest) ≡ file_as_other e file ++ rest
-  turned_file rest =
-      ap₂ (λ (x y : List ℕ). x ++ y) (map-front (record_as_other e) file rest 0 (length file / 16) (omega arith)) (drop_at file rest (16 * (length file / 16)) (sym whole))
+  pub all_turnable : AllTurnable e file (length file / 16)
+  all_turnable k h y = let a = accepted_file e file s q in turnable e s.m (record_at file k) (few-grades a) ((a.cells k h).sound y)
 
 module _ (e : Edition) (file out : List ℕ) (bytes : (j : ℕ) → at file j < 256) where
   accepted-converted : (turned : List ℕ) → convert_call e file (length out) ≡ accepted turned → Converted e file turned
@@ -99,29 +76,18 @@ module _ (e : Edition) (file out : List ℕ) (bytes : (j : ℕ) → at file j < 
   by_verdict v q =
       record {
         answer = ap outcome_of (sym q);
-        means = outcome_means_lem v ∙ ap (answer_of (λ (turned : List ℕ). [])) (sym q);
+        means = result-says (λ (turned : List ℕ). tt) (λ u. []) v ∙ ap (answer_of (λ (turned : List ℕ). [])) (sym q);
         out-after = ap (λ (w : Verdict (List ℕ)). out_after w out) (sym q);
         front = front;
-        converted = λ z. let w = was_written v (sym z) in subst (Converted e file) (sym (front w.0 (q ∙ w.1))) (accepted-converted w.0 (q ∙ w.1));
+        converted = λ z. let w = was_ok (λ (turned : List ℕ). tt) v (sym z) in subst (Converted e file) (sym (front w.0 (q ∙ w.1))) (accepted-converted w.0 (q ∙ w.1));
       }
     where
       front : (turned : List ℕ) → convert_call e file (length out) ≡ accepted turned → take (length file) (out_after v out) ≡ turned
       front turned z = ap (λ (w : Verdict (List ℕ)). take (length file) (out_after w out)) (sym q ∙ z) ∙ at_front turned z
 
-  rows : Verdict Seen → Verdict (List ℕ)
-  rows v = and_then v (λ s. unless (leb (length file) (length out)) ShortBuffer (accepted (file_as_other e file)))
-
-  pub convert_refused : (r : Refusal) → judge_file e file ≡ refused r → Converts e file out (Refused r) out
-  unfolding rows
-  convert_refused r q = by_verdict (refused r) (ap rows q)
-
   module _ (s : Seen) (q : judge_file e file ≡ accepted s) where
-    pub convert_short : length out < length file → Converts e file out (Refused ShortBuffer) out
-    unfolding rows
-    convert_short h = by_verdict (refused ShortBuffer) (ap rows q ∙ row_stop ShortBuffer _ (lt-leb (length file) (length out) h))
-
-    pub convert_written : length file ≤ length out → (out' : List ℕ) → out' ≡ file_as_other e file ++ drop (length file) out → Converts e file out Written out'
+    pub convert_written : length file ≤ length out → (out' : List ℕ) → out' ≡ file_as_other e file ++ drop (length file) out → Converts e file out (Ok tt) out'
     convert_written h out' w =
         let v : convert_call e file (length out) ≡ accepted (file_as_other e file) = with_room e file (length out) h ∙ ap (λ (v : Verdict Seen). and_then v (λ t. accepted (file_as_other e file))) q in
         let c = accepted-converted (file_as_other e file) v in
-        subst (Converts e file out Written) (ap (λ (n : ℕ). file_as_other e file ++ drop n out) c.as_long ∙ sym w) (by_verdict (accepted (file_as_other e file)) v)
+        subst (Converts e file out (Ok tt)) (ap (λ (n : ℕ). file_as_other e file ++ drop n out) c.as_long ∙ sym w) (by_verdict (accepted (file_as_other e file)) v)

@@ -1,9 +1,8 @@
 -- What turning a file into the other edition promises.
-use Rattle.std.specs.Prelude.{ℕ, ◌≤◌, ◌<◌, ◌≡◌, List, [], ◌++◌, length, take, drop}
+use Rattle.std.specs.Prelude.{ℕ, ◌≤◌, ◌<◌, ◌≡◌, List, [], ◌++◌, Result, Ok, length, take, drop}
 use Rattle.rules.specs.declared.Edition.{Edition}
 use Rattle.rules.specs.declared.Edition.TheVariants.{Ours, Spreadsheet}
-use Rattle.rules.specs.declared.Outcome.{Outcome}
-use Rattle.rules.specs.declared.Outcome.TheVariants.{Written}
+use Rattle.rules.specs.declared.Refusal.{Refusal}
 use Rattle.rules.specs.Bytes.{at, record_at, word}
 use Rattle.rules.specs.Verdict.{Verdict, accepted, refused, answer_of, outcome_of, outcome_means}
 use Rattle.rules.specs.TableFile.{cell_kind}
@@ -28,10 +27,10 @@ module _ (e : Edition) (file out : List ℕ) where
   verdict = convert_call e file (length out)
 
   -- the answer and every byte of the output, for every file of either edition and every output
-  pub record Converts (r : Outcome) (out' : List ℕ) : Type 0 where
+  pub record Converts (r : Result (Unit {0}) Refusal) (out' : List ℕ) : Type 0 where
     pub answer : r ≡ outcome_of verdict
     pub means : outcome_means r ≡ answer_of (λ turned. []) verdict
     pub out-after : out' ≡ out_after verdict out
     -- accepted, the file in the other edition is the output's front, and is what request 6 claims
     pub front : (turned : List ℕ) → verdict ≡ accepted turned → take (length file) out' ≡ turned
-    pub converted : r ≡ Written → Converted e file (take (length file) out')
+    pub converted : r ≡ Ok tt → Converted e file (take (length file) out')

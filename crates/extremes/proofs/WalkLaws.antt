@@ -6,7 +6,7 @@ use mathlib.Core.List.{List, []}
 use mathlib.Core.Logic.{inl}
 use native.Mathlib.Omega.{arith}
 use native.Mathlib.Numerals.{add-one}
-use native.Mathlib.Nat.{mod-lt, mod-eq_of_lt, mod-add-div, mul-suc, mul_comm, mul_assoc, mul-add, mod-one, one-mul, div-div-eq-div-mul, mul-one, mul-zero, mul-pos, add-zero, mul-div_cancel_left}
+use native.Mathlib.Nat.{mod-lt, mod-eq_of_lt, mod-add-div, mul-suc, mul_comm, mul_assoc, mul-add, mod-one, one-mul, div-div-eq-div-mul, mul-one, mul-pos, add-zero, mul-div_cancel_left}
 use lib.Dec.{T}
 use lib.ListN.{length, get_or}
 use Rattle.rules.specs.Bytes.{at, tabulate}
@@ -349,11 +349,6 @@ module _ {ks : List ℕ} (s : Shaped ks) (long : length ks ≡ 8) {n : ℕ} (e :
       swept_over greatest e (omega arith)
       (subst (λ (m : ℕ). Swept greatest ks set m n g w to n w') (ap (step ks) k ∙ step-all ks 8 (omega arith) ∙ sym e)
       (climbed greatest s long e (top + 1) (7 - top) (omega arith) (λ j le lt. none j (omega arith) lt) (subst (λ (m : ℕ). Swept greatest ks set m n g w to n w') es x)))
-
--- nothing is written yet
-pub swept_none : (greatest : Bool) (ks : List ℕ) (set size n : ℕ) (g w : List ℕ) (to : ℕ) → Swept greatest ks set size n g w to (size * 0) w
-swept_none greatest ks set size n g w to =
-    record { len = refl; here = λ c lt. absurd (omega (arith, mul-zero size)); before = λ j h. refl; after = λ j h. refl }
 
 -- one table more, from its extremes
 swept_more : {greatest : Bool} {ks : List ℕ} {set size n : ℕ} {g w : List ℕ} {to : ℕ} (b : ℕ) {w' w'' : List ℕ} → length w'' ≡ length w' → Swept greatest ks set size n g w to (size * b) w'

@@ -16,7 +16,8 @@ ghost use Rattle.rows.specs.Blocks.{Tables};
 ghost use Rattle.extremes.specs.Walk.{Members, Swept};
 
 use places::members;
-use rows::{blocks, grades};
+use rows::blocks;
+use rows::grades::{self, Lines};
 use rules::PLACES;
 
 // The extreme over condition i at every cell.
@@ -88,13 +89,18 @@ fn over_places(
         over_places(lent, w, walk, i - 1, row_of(size, card), n, from, to);
         return;
     }
-    let none = [0u8; 0];
     let step = size / card;
+    let lines = Lines {
+        greatest,
+        step,
+        card,
+    };
     let count = n / size;
+    // By number: both offsets come from it.
     for b in 0..count {
         let a = to + size * b;
-        blocks::first_row(lent, w, greatest, from + size * b, a, step, card);
-        over_places(&none, w, walk, i - 1, step, step, a, a);
+        blocks::first_row(lent, w, lines, from + size * b, a);
+        over_places(&[], w, walk, i - 1, step, step, a, a);
         blocks::repeat_row(w, a, step, card);
     }
 }

@@ -4,14 +4,13 @@ use mathlib.Core.Path.{◌≡◌, refl, ◌∙◌, ap}
 use mathlib.Core.Bool.{Bool, not, ◌&&◌}
 use native.Mathlib.Nat.{not-suc-le-zero, le_of_suc-le-suc, pow-suc}
 use native.Mathlib.Omega.{arith}
-use lib.Pow.{pow_mono}
-use lib.Count.{count_leading_zeros, count_trailing_zeros, under, leading_of_zero}
+use lib.Pow.{pow_mono, pow_pos}
+use lib.Count.{count_trailing_zeros, under}
 use borrow.Author.Tests.{ne_eqb}
 use lib.Dec.{eqb, ltb}
 use Rattle.rules.specs.Bytes.{pick}
 use Rattle.rules.specs.Cell.{has}
 use Rattle.rules.specs.GradeSet.{span, least_to, greatest_to, least_grade, greatest_grade, set_sound}
-use Rattle.laws.proofs.TestLaws.{by_order}
 
 -- the zeros below the lowest member
 under-pick : (d t : ℕ) → d < 2 → under d t ≡ pick (eqb d 1) 0 (suc t)
@@ -24,16 +23,16 @@ unfolding count_trailing_zeros
 trailing_least zero s = refl
 trailing_least (suc n) s = under-pick (s % 2) (count_trailing_zeros n (s / 2)) (omega arith) ∙ ap (λ (t : ℕ). pick (has s 0) 0 (suc t)) (trailing_least n (s / 2))
 
--- those above the highest
-pub leading_greatest : (n s : ℕ) → 0 < s → s < 2 ^ n → greatest_to n s + (count_leading_zeros n s + 1) ≡ n
-unfolding count_leading_zeros
-leading_greatest zero s p h = absurd (omega arith)
-leading_greatest (suc n) zero p h = absurd (omega arith)
-leading_greatest (suc n) (suc s) p h =
-    let w : 2 ^ suc n ≡ 2 ^ n * 2 = pow-suc 2 n in
-    by_order (suc s / 2) 0
-    (λ le. let z : suc s / 2 ≡ 0 = omega arith in rw (z, leading_of_zero n) (omega arith))
-    (λ lt. rw (ne_eqb (suc s / 2) 0 (λ z. omega arith)) (omega (arith, leading_greatest n (suc s / 2) lt (omega arith))))
+-- the highest, by the power of two that a set reaches
+pub greatest-log : (n s k : ℕ) → s < 2 ^ n → 2 ^ k ≤ s → s < 2 * 2 ^ k → greatest_to n s ≡ k
+greatest-log zero s k h lo hi = absurd (omega (arith, pow_pos k))
+greatest-log (suc n) s zero h lo hi = let one : s ≡ 1 = omega arith in rw one refl
+greatest-log (suc n) s (suc k) h lo hi =
+    let p = pow_pos k in
+    let u = pow-suc 2 k in
+    let v = pow-suc 2 n in
+    let some : s / 2 ≡ 0 → ⊥ = λ z. omega arith in
+    rw (ne_eqb (s / 2) 0 some) (ap suc (greatest-log n (s / 2) k (omega arith) (omega arith) (omega arith)))
 
 -- the grades from l to u are all up to u but those below l
 pub span_powers : (l u : ℕ) → l ≤ u → span l u + 2 ^ l ≡ 2 ^ suc u

@@ -8,7 +8,7 @@ ghost use Rattle.rules.specs.GradeSet.{span, least_grade, greatest_grade, set_so
 pub fn least(set: u16) -> u32
     ensures { result ≡ least_grade set }
 {
-    u16::trailing_zeros(set)
+    set.trailing_zeros()
 }
 
 // The greatest grade of a set that has one.
@@ -16,7 +16,7 @@ pub fn greatest(set: u16) -> u32
     requires { 0 < set }
     ensures { result ≡ greatest_grade set }
 {
-    15 - u16::leading_zeros(set)
+    set.ilog2()
 }
 
 // The set of the grades from the lower to the upper.
@@ -35,8 +35,8 @@ pub fn is_sound(set: u16, m: u8) -> bool
         return false;
     }
     let upper = greatest(set);
-    if set as u32 != span(least(set), upper) {
+    if u32::from(set) != span(least(set), upper) {
         return false;
     }
-    upper < m as u32
+    upper < u32::from(m)
 }

@@ -1,11 +1,12 @@
 -- Growing two sets, one condition after the other.
 use Prim.Native.Nat.{ℕ, ◌+◌}
 use mathlib.Core.Path.{◌≡◌, refl, sym, ◌∙◌, ap, subst}
-use mathlib.Core.Bool.{Bool, true, false, cond, not, ◌&&◌}
+use mathlib.Core.Bool.{Bool, true, false, cond, ◌||◌}
 use mathlib.Core.List.{List}
 use native.Mathlib.Nat.{zero-add}
 use native.Mathlib.Numerals.{add-one}
 use lib.Dec.{T, leb}
+use Rattle.std.proofs.lemmas.Bool.{or_parts}
 use Rattle.rules.specs.Bytes.{numbers_from}
 use Rattle.rules.specs.Cell.{Positive, cells, present, has, insert, singleton, least_over}
 use Rattle.rules.specs.Stage.{Grouping, none, sets, count, try_join, add_condition, grow}
@@ -16,13 +17,10 @@ use Rattle.grouping.specs.Growing.{Held, Space, Tried, Grows, in_order}
 use Rattle.grouping.proofs.JoiningLaws.{admits-joins, joins-turn}
 use Rattle.grouping.proofs.KeptLaws.{kept_self, kept_then, kept-turn, kept-laid, kept-part, held-turn, held-add, turn-space}
 
--- an addition that is made, and one that is not
+-- an addition that is made
 pub tried_yes : {w ks : List ℕ} {i low keep grow : ℕ} {w' : List ℕ} → true ≡ admits ks i (part w low (cells ks)) (part w keep (cells ks)) (part w grow (cells ks))
     → Laid w grow (least_over ks (singleton i) (part w grow (cells ks))) (cells ks) w' → Tried w ks i low keep grow true w'
 tried_yes e l = record { is = e; on = λ q. l; off = λ q. absurd (subst T q tt) }
-
-pub tried_no : {w ks : List ℕ} {i low keep grow : ℕ} → false ≡ admits ks i (part w low (cells ks)) (part w keep (cells ks)) (part w grow (cells ks)) → Tried w ks i low keep grow false w
-tried_no e = record { is = e; on = λ q. absurd (subst T (sym q) tt); off = λ q. refl }
 
 -- what an addition that was tried says of the join
 tried-joins : {w ks : List ℕ} {i low a b : ℕ} {r : Bool} {w' u : List ℕ} {s t : ℕ} → Positive ks → Tried w ks i low a b r w' → Held ks u s t a b w
@@ -108,27 +106,14 @@ pub record Open (ks : List ℕ) (i s t : ℕ) : Type 0 where
   pub first : has s i ≡ false
   pub second : has t i ≡ false
 
+pub open_from : {ks : List ℕ} {i s t : ℕ} → present ks i ≡ true → (has s i || has t i) ≡ false → Open ks i s t
+open_from {ks} {i} {s} {t} e n = let p = or_parts (has s i) (has t i) n in record { there = e; first = p.0; second = p.1 }
+
 module _ (w ks : List ℕ) (low a b s t i : ℕ) where
   abbrev Next : ℕ → ℕ → List ℕ → Type 0
   Next s' t' w' = Grows w ks low a b s t (λ js. add_condition (present ks) js i (sets s t)) s' t' w'
 
-  -- otherwise it is not added
-  closed : present ks i && (not (has s i) && not (has t i)) ≡ false → Next s t w
-  closed e = grows_as (λ js. rw e) (grows_none w ks low a b s t)
-
-  pub not_there : present ks i ≡ false → Next s t w
-  not_there e = closed (rw e)
-
-  pub in_first : present ks i ≡ true → has s i ≡ true → Next s t w
-  in_first e f = closed (rw (e, f))
-
-  pub in_second : present ks i ≡ true → has s i ≡ false → has t i ≡ true → Next s t w
-  in_second e f g = closed (rw (e, f, g))
-
   module _ {s' t' : ℕ} {w' : List ℕ} (o : Open ks i s t) where
-    pub first_smaller : leb (count s) (count t) ≡ true → Grows w ks low a b s t (in_order ks i s t) s' t' w' → Next s' t' w'
-    first_smaller h r = grows_as (λ js. rw (o.there, o.first, o.second, h)) r
-
     pub second_smaller : leb (count s) (count t) ≡ false → Grows w ks low b a t s (in_order ks i t s) t' s' w' → Next s' t' w'
     second_smaller h r = grows_as (λ js. rw (o.there, o.first, o.second, h)) (turn_grows i r)
 

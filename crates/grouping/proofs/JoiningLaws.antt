@@ -1,7 +1,7 @@
 -- The test of an addition at every cell, and the join that it decides.
 use Prim.Native.Nat.{ℕ, ◌+◌, ◌<◌, max}
 use mathlib.Core.Path.{◌≡◌, sym, ◌∙◌, ap, ap₂}
-use mathlib.Core.Bool.{Bool, true, false}
+use mathlib.Core.Bool.{Bool}
 use mathlib.Core.List.{List}
 use native.Mathlib.Nat.{max_comm}
 use lib.Dec.{leb}
@@ -13,8 +13,7 @@ use Rattle.tables.specs.Part.{part, Shaped}
 use Rattle.lines.specs.Along.{least_on}
 use Rattle.lines.specs.declared.Along.{Along}
 use Rattle.tables.proofs.PartLaws.{part_at}
-use Rattle.laws.proofs.TableLaws.{all_same, all_false}
-use Rattle.tables.proofs.ScanLaws.{all_passed}
+use Rattle.laws.proofs.TableLaws.{all_same}
 use Rattle.grouping.specs.Joining.{joins, admits}
 use Rattle.lines.proofs.AlongLaws.{Walks, walks_least}
 
@@ -27,17 +26,6 @@ module _ (w ks : List ℕ) (i low keep grow : ℕ) where
   pub add_at : {c : ℕ} {on : Along} → Shaped ks → Walks ks i c on → c < cells ks
       → leb (at w (low + c)) (max (at w (keep + c)) (least_on w grow c on)) ≡ add_cell w ks i low keep grow c
   add_at {c} shaped x h = ap₂ leb (sym (part_at w low (cells ks) c h)) (ap₂ max (sym (part_at w keep (cells ks) c h)) (walks_least shaped x w grow h))
-
-  -- every cell passes, or one fails
-  pub add_passed : {c : ℕ} → c ≡ cells ks → ((k : ℕ) → k < c → add_cell w ks i low keep grow k ≡ true)
-      → true ≡ admits ks i (part w low (cells ks)) (part w keep (cells ks)) (part w grow (cells ks))
-  unfolding admits
-  add_passed e h = sym (all_passed (cells ks) (add_cell w ks i low keep grow) e h)
-
-  pub add_failed : (k : ℕ) → k < cells ks → add_cell w ks i low keep grow k ≡ false
-      → false ≡ admits ks i (part w low (cells ks)) (part w keep (cells ks)) (part w grow (cells ks))
-  unfolding admits
-  add_failed k h e = sym (all_false (cells ks) (add_cell w ks i low keep grow) k h e)
 
 -- the test of an addition decides whether the grown set joins
 pub admits-joins : (ks : List ℕ) (i : ℕ) (l u keep grow : List ℕ) (s t : ℕ) → Positive ks → keep ≡ least_over ks t u → grow ≡ least_over ks s u → admits ks i l keep grow ≡ joins ks l u (insert s i) t

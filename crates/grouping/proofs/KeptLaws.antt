@@ -1,8 +1,8 @@
 -- What stays of a buffer in which two parts were written, and the tables that stand in the two.
 use Prim.Native.Nat.{ℕ, ◌+◌, ◌*◌, ◌≤◌, ◌<◌}
 use mathlib.Core.Path.{◌≡◌, refl, sym, ◌∙◌, ap, subst}
-use mathlib.Core.List.{List, []}
-use mathlib.Core.Logic.{◌⊎◌, inl, inr, ⊎_elim}
+use mathlib.Core.List.{List}
+use mathlib.Core.Logic.{inl, inr, ⊎_elim}
 use native.Mathlib.Nat.{zero-add}
 use native.Mathlib.Omega.{arith}
 use lib.ListN.{length}
@@ -14,8 +14,7 @@ use Rattle.laws.proofs.TableLaws.{length-tabulate_from}
 use Rattle.laws.proofs.TestLaws.{by_order}
 use Rattle.tables.specs.Part.{part, Laid, Apart, Two}
 use Rattle.tables.proofs.PartLaws.{part_at, part_same, laid_as, laid-part, laid-apart}
-use Rattle.tables.proofs.LendLaws.{lent, lent_length, lent_at, back, laid-back, laid_alone}
-use Rattle.rows.specs.Grades.{Reads}
+use Rattle.tables.proofs.LendLaws.{lent, lent_at, back, laid-back, laid_alone}
 use Rattle.grouping.specs.Growing.{Held, Kept, Space, Started}
 
 -- parts that lie apart, from either
@@ -31,9 +30,6 @@ turn-space p = record { shaped = p.shaped; first = p.second; second = p.first; b
 -- the same for as many cells
 pub cells-apart : {w : List ℕ} {from to m n : ℕ} → n ≡ m → Two w from to m → Two w from to n
 cells-apart {w} {from} {to} e p = subst (λ (k : ℕ). Two w from to k) (sym e) p
-
-pub same-space : {w w' ks : List ℕ} {low a b : ℕ} → length w' ≡ length w → Space w ks low a b → Space w' ks low a b
-same-space e p = record { shaped = p.shaped; first = same-apart e p.first; second = same-apart e p.second; both = same-apart e p.both }
 
 -- what is kept
 pub kept_self : (w : List ℕ) (a b n : ℕ) → Kept w a b n w
@@ -69,14 +65,6 @@ least-laid ks i b f l h = laid-part l h (length-tabulate_from _ 0 (cells ks))
 
 -- k bytes from a on that are lent, of which the first n are taken over a condition: in their place or behind them
 module _ (w : List ℕ) (a k to n : ℕ) (h : a + k ≤ length w) (g : to + n ≤ k) where
-  pub lent_reads : (0 ≡ to) ⊎ (n ≤ to) → Reads [] (lent a k w) 0 to n
-  lent_reads x =
-      record {
-        src = omega (arith, lent_length a k w h);
-        dst = omega (arith, lent_length a k w h);
-        aside = ⊎_elim (λ q. inl q) (λ q. inr (inl (omega arith))) x;
-      }
-
   pub lent-least : (ks : List ℕ) (i : ℕ) {v : List ℕ} → n ≡ cells ks → Laid (lent a k w) to (least_over ks (singleton i) (part (lent a k w) 0 n)) n v
       → Laid w (a + to) (least_over ks (singleton i) (part w a (cells ks))) (cells ks) (back a k w v)
   lent-least ks i {v} e l =

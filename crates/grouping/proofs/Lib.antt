@@ -2,5 +2,4 @@
 pub mod JoiningLaws
 pub mod KeptLaws
 pub mod GrowLaws
-pub mod KeepsLaws
 pub mod GroupedLaws

@@ -18,9 +18,8 @@ pub fn start_sets(w: &mut [u8], ks: [u8; PLACES], i: usize, j: usize, n: usize, 
     requires { (i < 8) × (j < 8) × (n ≡ cells ks) × Shaped ks × (high + 2 * n ≤ length w.old) }
     ensures { Started w.old ks i j high (high + n) high w.new }
 {
-    let none = [0u8; 0];
-    extremes::over_one(&none, &mut w[high..high + 2 * n], false, ks, j, n, 0, n);
-    extremes::over_one(&none, &mut w[high..high + n], false, ks, i, n, 0, 0);
+    extremes::over_one(&[], &mut w[high..high + 2 * n], false, ks, j, n, 0, n);
+    extremes::over_one(&[], &mut w[high..high + n], false, ks, i, n, 0, 0);
 }
 
 // Adds condition i to the set whose table is at `grow`, if that may be: whether it was.
@@ -37,12 +36,11 @@ fn try_add(
     requires { Counts ks i n step × Space w.old ks low keep grow }
     ensures { Tried w.old ks i low keep grow result w.new }
 {
-    if joins::may_add(w, ks, i, n, step, low, keep, grow) {
-        let none = [0u8; 0];
-        extremes::over_one(&none, &mut w[grow..grow + n], false, ks, i, n, 0, 0);
-        return true;
+    let joins = joins::may_add(w, ks, i, n, step, low, keep, grow);
+    if joins {
+        extremes::over_one(&[], &mut w[grow..grow + n], false, ks, i, n, 0, 0);
     }
-    false
+    joins
 }
 
 // Adds condition i to s, failing that to t, failing that to neither.
@@ -60,18 +58,16 @@ fn add_in_order(
     requires { Counts ks i n step × Space w.old ks low a b × (has found.s i ≡ false) × (has found.t i ≡ false) }
     ensures { Grows w.old ks low a b found.s found.t (in_order ks i found.s found.t) result.s result.t w.new }
 {
-    let s = found.s;
-    let t = found.t;
     if try_add(w, ks, i, n, step, low, a, b) {
         return Sets {
-            s: sets::insert(s, i),
-            t,
+            s: sets::insert(found.s, i),
+            ..found
         };
     }
     if try_add(w, ks, i, n, step, low, b, a) {
         return Sets {
-            s,
-            t: sets::insert(t, i),
+            t: sets::insert(found.t, i),
+            ..found
         };
     }
     found
@@ -93,25 +89,13 @@ pub fn add_condition(
     requires { Counts ks i n step × Space w.old ks low a b }
     ensures { Grows w.old ks low a b found.s found.t (λ js. add_condition (present ks) js i (sets_of found)) result.s result.t w.new }
 {
-    let s = found.s;
-    let t = found.t;
-    if ks[i] < 2 {
+    if ks[i] < 2 || found.has(i) {
         return found;
     }
-    if places::has_member(s, i) {
-        return found;
-    }
-    if places::has_member(t, i) {
-        return found;
-    }
-    if sets::count(s) <= sets::count(t) {
+    if sets::count(found.s) <= sets::count(found.t) {
         return add_in_order(w, ks, found, i, n, step, low, a, b);
     }
-    let turned = add_in_order(w, ks, Sets { s: t, t: s }, i, n, step, low, b, a);
-    Sets {
-        s: turned.t,
-        t: turned.s,
-    }
+    add_in_order(w, ks, found.turned(), i, n, step, low, b, a).turned()
 }
 
 // Adds each condition in turn, for tables of n cells.
@@ -129,9 +113,9 @@ pub fn grow(
 {
     let mut grown = found;
     let mut step: usize = 1;
-    for i in 0..PLACES {
+    for (i, card) in ks.iter().enumerate() {
         grown = add_condition(w, ks, grown, i, n, step, low, a, b);
-        step = step * (ks[i] as usize);
+        step *= *card as usize;
     }
     grown
 }

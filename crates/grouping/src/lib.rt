@@ -5,13 +5,14 @@
 pub mod growing;
 pub mod joins;
 
-ghost use Rattle.std.specs.Prelude.{◌+◌, ◌≡◌};
-ghost use Rattle.rules.specs.Cell.{cells};
+ghost use Rattle.std.specs.Prelude.{◌+◌, ◌<◌, ◌≡◌, ◌||◌};
+ghost use Rattle.rules.specs.Cell.{cells, has};
 ghost use Rattle.rules.specs.Settings.{less_or_tie};
-ghost use Rattle.rules.specs.Stage.{difference, keeps_max};
+ghost use Rattle.rules.specs.Stage.{count, keeps_max};
 ghost use Rattle.grouping.specs.Joining.{joins_at};
 ghost use Rattle.grouping.specs.Growing.{Space, First, Grouped};
 
+use places::sets;
 use rules::{Gate, PLACES};
 
 // The sets of a join.
@@ -19,6 +20,33 @@ use rules::{Gate, PLACES};
 pub struct Sets {
     pub s: u8,
     pub t: u8,
+}
+
+impl Sets {
+    // The sets exchanged.
+    fn turned(self) -> Sets
+        ensures { (result.s ≡ self.t) × (result.t ≡ self.s) }
+    {
+        Sets {
+            s: self.t,
+            t: self.s,
+        }
+    }
+
+    // Whether condition i is in either.
+    fn has(self, i: usize) -> bool
+        requires { i < 8 }
+        ensures { result ≡ (has self.s i || has self.t i) }
+    {
+        places::has_member(self.s, i) || places::has_member(self.t, i)
+    }
+
+    // How many conditions each has.
+    fn counts(self) -> (usize, usize)
+        ensures { (result.0 ≡ count self.s) × (result.1 ≡ count self.t) }
+    {
+        (sets::count(self.s), sets::count(self.t))
+    }
 }
 
 // The grouping that grows from the first pair that joins, i and j, under the limits of n cells at low and at high. The least upper
@@ -37,17 +65,10 @@ pub fn group(
 {
     growing::start_sets(w, ks, i, j, n, high);
     let first = Sets {
-        s: places::sets::singleton(i),
-        t: places::sets::singleton(j),
+        s: sets::singleton(i),
+        t: sets::singleton(j),
     };
     growing::grow(w, ks, n, first, low, high + n, high)
-}
-
-// How far apart two counts are.
-fn difference(a: usize, b: usize) -> usize
-    ensures { result ≡ difference a b }
-{
-    if a < b { b - a } else { a - b }
 }
 
 // Whether max's number is less than min's, or equal and max wins ties.
@@ -65,12 +86,10 @@ fn less_or_tie(tie: Gate, a: usize, b: usize) -> bool
 pub fn keeps_max(tie: Gate, max: Sets, min: Sets) -> bool
     ensures { result ≡ keeps_max tie max.s max.t min.s min.t }
 {
-    let s = places::sets::count(max.s);
-    let t = places::sets::count(max.t);
-    let u = places::sets::count(min.s);
-    let v = places::sets::count(min.t);
+    let (s, t) = max.counts();
+    let (u, v) = min.counts();
     if s + t == u + v {
-        return less_or_tie(tie, difference(s, t), difference(u, v));
+        return less_or_tie(tie, s.abs_diff(t), u.abs_diff(v));
     }
     u + v < s + t
 }

@@ -1,20 +1,23 @@
 -- A call that rows 4, 10, 5 and 7 let pass.
 use Prim.Native.Nat.{ℕ, ◌≤◌}
-use mathlib.Core.Path.{◌≡◌, sym, ◌∙◌, ap, subst}
-use mathlib.Core.Bool.{Bool}
+use mathlib.Core.Path.{◌≡◌, refl, sym, ◌∙◌, ap, subst}
+use mathlib.Core.Bool.{true}
 use mathlib.Core.List.{List, [], ◌∷◌}
 use native.Mathlib.Omega.{arith}
 use lib.Dec.{T, leb, leb→le}
 use lib.ListN.{length}
+use Rattle.std.specs.Prelude.{Result, Ok, Err}
 use Rattle.rules.specs.declared.Gate.{Gate}
-use Rattle.rules.specs.declared.Refusal.TheVariants.{NoJoin}
+use Rattle.rules.specs.declared.Refusal.{Refusal}
+use Rattle.rules.specs.declared.Refusal.TheVariants.{NoJoin, FirstBlock}
 use Rattle.rules.specs.Cell.{cells}
-use Rattle.rules.specs.Verdict.{Verdict, unless, roomy}
+use Rattle.rules.specs.Verdict.{Verdict, accepted, refused, unless, outcome_of, roomy}
 use Rattle.rules.specs.Limits.{Limits, limits_of}
-use Rattle.rules.specs.Join.{join_exists, first_limits, block_sound, join_rows}
+use Rattle.rules.specs.Join.{join_exists, first_limits, second_limits, block_sound, join_rows}
 use Rattle.rules.specs.Demands.{Table}
 use Rattle.laws.proofs.AcceptLaws.{accepted-table}
 use Rattle.laws.proofs.TestLaws.{and_l, and_r}
+use Rattle.laws.proofs.VerdictLaws.{refused-accepted, row_pass, row_ok, same_stop, was_err}
 use Rattle.shape.specs.declared.Shape.{Shape}
 use Rattle.shape.specs.Shapes.{cards_of, places_of}
 use Rattle.shape.proofs.ShapeLaws.{eight-cards}
@@ -54,15 +57,40 @@ module _ {shape : Shape} {lower upper : List ℕ} {s t : ℕ} {others ks : List 
       let i = x.few-cells in
       record { table = x; count = e; low = fits.0; high = fits.1.0; room = omega arith }
 
-  -- row 8, so all rows, and row 9
-  module _ {gate : Gate} {w w₁ : List ℕ} {r : Bool} (o : Opens gate ks shape.m s t (limits_of lower upper) n w r w₁) where
-    pub exists : {e : Bool} → r ≡ e → join_exists gate (places_of shape) shape.m s t (limits_of lower upper) ≡ e
-    exists is = let x = sym o.answer ∙ is in rw call.places at x
+  module _ {gate : Gate} {w w₁ : List ℕ} {r : Result (Unit {0}) Refusal} (o : Opens gate ks shape.m s t (limits_of lower upper) n w r w₁) where
+    abbrev rows : Verdict Limits → Verdict Limits
+    rows next = join_rows shape.n (cards_of shape) shape.m (length lower ∷ length upper ∷ others) (limits_of lower upper) gate s t next
 
-    pub rows_by : {e : Bool} → r ≡ e → (next : Verdict Limits)
-        → join_rows shape.n (cards_of shape) shape.m (length lower ∷ length upper ∷ others) (limits_of lower upper) gate s t next ≡ unless e NoJoin next
-    rows_by is next = row-eight call.offered gate next (exists is)
+    -- row 8, so all rows above it, by what opening the join answers
+    eight : r ≡ outcome_of (unless (join_exists gate (places_of shape) shape.m s t (limits_of lower upper)) NoJoin (accepted (limits_of lower upper)))
+    eight = let x = o.answer in rw call.places at x
 
-    pub row_nine : {g w₂ : List ℕ} {q e : Bool} → Completes gate ks shape.m s t n g w₁ q w₂ → q ≡ e
-        → block_sound (places_of shape) t (first_limits gate (places_of shape) shape.m s t (limits_of lower upper)) g ≡ e
-    row_nine c is = let x = sym (c.answer (limits_of lower upper) o.joining) ∙ is in rw call.places at x
+    pub exists : {u : Unit {0}} → r ≡ Ok u → join_exists gate (places_of shape) shape.m s t (limits_of lower upper) ≡ true
+    exists e = row_ok (join_exists gate (places_of shape) shape.m s t (limits_of lower upper)) NoJoin (accepted (limits_of lower upper)) eight e
+
+    pub passed_eight : {u : Unit {0}} → r ≡ Ok u → (next : Verdict Limits) → rows next ≡ next
+    passed_eight e next = row-eight call.offered gate next (exists e)
+
+    pub stopped_eight : {q : Refusal} → r ≡ Err q → (next : Verdict Limits) → rows next ≡ refused q
+    stopped_eight e next =
+        row-eight call.offered gate next refl
+        ∙ same_stop (join_exists gate (places_of shape) shape.m s t (limits_of lower upper)) NoJoin (λ h. refused-accepted (sym h)) (was_err (λ l. tt) _ (sym e ∙ eight))
+
+    -- row 9, by what completing it does
+    module _ {w₂ g : List ℕ} {p : Result (Unit {0}) Refusal} (c : Completes gate ks shape.m s t n g w₁ p w₂) where
+      abbrev next : Verdict Limits
+      next =
+          unless (block_sound (places_of shape) t (first_limits gate (places_of shape) shape.m s t (limits_of lower upper)) g) FirstBlock
+          (accepted (second_limits gate (places_of shape) shape.m s t (limits_of lower upper) g))
+
+      nine : p ≡ outcome_of next
+      nine = let x = c.answer (limits_of lower upper) o.joining in rw call.places at x
+
+      pub block : {u : Unit {0}} → p ≡ Ok u → block_sound (places_of shape) t (first_limits gate (places_of shape) shape.m s t (limits_of lower upper)) g ≡ true
+      block e = row_ok (block_sound (places_of shape) t (first_limits gate (places_of shape) shape.m s t (limits_of lower upper)) g) FirstBlock (accepted _) nine e
+
+      pub passed_nine : {u : Unit {0}} → p ≡ Ok u → next ≡ accepted (second_limits gate (places_of shape) shape.m s t (limits_of lower upper) g)
+      passed_nine e = row_pass FirstBlock (accepted _) (block e)
+
+      pub stopped_nine : {q : Refusal} → p ≡ Err q → next ≡ refused q
+      stopped_nine e = was_err (λ l. tt) _ (sym e ∙ nine)

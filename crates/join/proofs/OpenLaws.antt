@@ -1,25 +1,30 @@
 -- A join opened in a work buffer, its second block, and limits that leave the buffer.
 use Prim.Native.Nat.{ℕ, ◌*◌, ◌≤◌, ◌<◌}
 use mathlib.Core.Path.{◌≡◌, refl, sym, ◌∙◌, ap}
-use mathlib.Core.Bool.{Bool, true, false}
+use mathlib.Core.Bool.{Bool, true}
 use mathlib.Core.List.{List, ◌++◌}
 use native.Mathlib.Nat.{le_trans}
 use native.Mathlib.Omega.{arith}
 use lib.ListN.{length, drop}
+use Rattle.std.specs.Prelude.{Result, Ok}
 use Rattle.rules.specs.declared.Gate.{Gate}
+use Rattle.rules.specs.declared.Refusal.{Refusal}
+use Rattle.rules.specs.declared.Refusal.TheVariants.{NoJoin, FirstBlock}
 use Rattle.rules.specs.Bytes.{at}
 use Rattle.rules.specs.Cell.{cells}
-use Rattle.rules.specs.Limits.{Limits, limits_of}
-use Rattle.rules.specs.Join.{exchange_for, join_exists, first_limits, block_sound}
+use Rattle.rules.specs.Limits.{Limits}
+use Rattle.rules.specs.Verdict.{accepted, unless, outcome_of}
+use Rattle.rules.specs.Join.{exchange_for, join_exists, first_limits, second_limits, block_sound}
 use Rattle.rules.specs.Demands.{Table}
 use Rattle.laws.proofs.GateLaws.{Good, exchange_for_good, first_good}
 use Rattle.laws.proofs.JoinLaws.{u_a-under, u_b-under}
 use Rattle.laws.proofs.TestLaws.{passes}
+use Rattle.laws.proofs.VerdictLaws.{row_ok}
 use Rattle.tables.specs.Part.{part, Laid}
-use Rattle.join_tables.specs.Parts.{Below, Holds, Work, Lent, Begun, Opened, Existing, First, Second, Judged}
+use Rattle.join_tables.specs.Parts.{Below, Holds, Work, Begun, First, Second, Judged}
 use Rattle.join_tables.proofs.HoldLaws.{holds_at, holds-part, laid-holds, laid-within, loaded, stays-below, stays_behind}
 use Rattle.join_tables.proofs.BlindLaws.{block_inside}
-use Rattle.join.specs.Steps.{Opening, Joining, Opens, Given, Completes, Delivered}
+use Rattle.join.specs.Steps.{Joining, Opens, Given, Completes, Delivered}
 
 -- a table under the upper limits of some that are grades
 grades : {ks : List ℕ} {m n a : ℕ} {y : Limits} {w u : List ℕ} → n ≡ cells ks → Good ks m y → Holds w a u n → ((c : ℕ) → c < cells ks → at u c ≤ at y.upper c) → Below w a n m
@@ -31,34 +36,9 @@ table_good w = record { room = w.ordered; top = w.top }
 table-work : {ks : List ℕ} {m n : ℕ} {l : Limits} {w : List ℕ} → Table ks m l → n ≡ cells ks → 6 * n ≤ length w → Work w ks n
 table-work x e le = record { shaped = record { some = x.positive; few = x.few-cells }; count = e; room = le }
 
--- lent limits, and the join under them opened
-module _ {ks lower upper w : List ℕ} {m n : ℕ} (p : Opening ks m n lower upper w) where
-  pub opening_ready : Work w ks n × Lent lower upper m n
-  opening_ready =
-      let x = p.table in
-      let e = p.count in (
-        table-work x e p.room,
-        record {
-          some = omega (arith, x.grades);
-          low = p.low;
-          high = p.high;
-          lows = λ c lt. le_trans (x.ordered c (omega arith)) (x.top c (omega arith));
-          highs = λ c lt. x.top c (omega arith);
-        },
-      )
-
-  pub opens : {gate : Gate} {s t : ℕ} {w' : List ℕ} {r : Bool} → Opened gate ks m s t (limits_of lower upper) n w' → length w' ≡ length w → Existing n w' r
-      → Opens gate ks m s t (limits_of lower upper) n w r w'
-  opens {gate} {s} {t} o len e =
-      let r = p.room in
-      record {
-        answer = e.answer gate ks m s t (limits_of lower upper) p.count o;
-        joining = record { table = p.table; count = p.count; room = omega arith; opened = o };
-        len = len;
-      }
-
-pub given : {gate : Gate} {ks : List ℕ} {m s t : ℕ} {l : Limits} {n : ℕ} {w w' g : List ℕ} {r : Bool} → Opens gate ks m s t l n w r w' → r ≡ true → n ≤ length g → Given gate ks m s t n g w'
-given {l = l} o e h = record { l = l; joining = o.joining; exists = sym o.answer ∙ e; block = h }
+pub given : {gate : Gate} {ks : List ℕ} {m s t : ℕ} {l : Limits} {n : ℕ} {w w' g : List ℕ} {r : Result (Unit {0}) Refusal} {u : Unit {0}} → Opens gate ks m s t l n w r w' → r ≡ Ok u → n ≤ length g → Given gate ks m s t n g w'
+given {gate} {ks} {m} {s} {t} {l} o e h =
+    record { l = l; joining = o.joining; exists = row_ok (join_exists gate ks m s t l) NoJoin (accepted l) o.answer e; block = h }
 
 -- a join that is open, in its buffer and in those that follow
 module _ {gate : Gate} {ks : List ℕ} {m s t : ℕ} {l : Limits} {n : ℕ} {w : List ℕ} (j : Joining gate ks m s t l n w) where
@@ -111,11 +91,13 @@ module _ {gate : Gate} {ks : List ℕ} {m t n : ℕ} {w w₁ w₂ w₃ : List �
         let inside = block_inside ks t (first_limits gate ks m s t l) g (passes (sym row_nine ∙ sound)) in
         (work j len, some j, grades j.count good block (λ c i. (inside c i).1), lows j begun, seconds j begun)
 
-  pub incomplete : {s : ℕ} → q ≡ false → Completes gate ks m s t n g w false w₃
-  incomplete e = record { answer = λ l j. sym e ∙ row_nine j; limits = λ l j h. let z : ◌≡◌ {A = ℕ} 0 1 = cc in absurd (omega arith); len = len }
-
-  pub complete : {s : ℕ} {w' : List ℕ} → q ≡ true → Second gate ks m s n w₃ w' → Completes gate ks m s t n g w true w'
-  complete e h = record { answer = λ l j. sym e ∙ row_nine j; limits = λ l j k. h.limits t l g (begun j) block; len = h.kept.len ∙ len }
+  pub complete : {s : ℕ} {w' : List ℕ} → q ≡ true → Second gate ks m s n w₃ w' → Completes gate ks m s t n g w (Ok tt) w'
+  complete {s} e h =
+      record {
+        answer = λ l j. ap (λ (b : Bool). outcome_of (unless b FirstBlock (accepted (second_limits gate ks m s t l g)))) (sym e ∙ row_nine j);
+        limits = λ l j k. h.limits t l g (begun j) block;
+        len = h.kept.len ∙ len;
+      }
 
 -- limits from parts 4 and 5 to two buffers
 pub delivered : {n : ℕ} {w low high low' high' : List ℕ} → 6 * n ≤ length w → low' ≡ part w (4 * n) n ++ drop n low → high' ≡ part w (5 * n) n ++ drop n high → Delivered n w low high low' high'

@@ -1,22 +1,29 @@
 -- Row 7, test by test.
-use Prim.Native.Nat.{ℕ, ◌<◌}
-use mathlib.Core.Path.{◌≡◌, ap}
+use Prim.Native.Nat.{ℕ}
+use mathlib.Core.Path.{◌≡◌, sym, ◌∙◌, ap}
 use mathlib.Core.Bool.{Bool, not, ◌&&◌, ◌||◌}
 use mathlib.Core.List.{List}
-use lib.Dec.{ltb, eqb}
-use lib.ListN.{length, get_or}
+use native.Mathlib.Nat.{zero-add}
+use borrow.Author.Tests.{ne_eqb}
+use lib.Dec.{ltb}
+use lib.ListN.{length}
+use Rattle.std.specs.List.{list_all, enumerate_from}
 use Rattle.rules.specs.Bytes.{all}
 use Rattle.rules.specs.Cell.{present, has}
 use Rattle.rules.specs.Join.{sets_sound}
+use Rattle.laws.proofs.ChainLaws.{numbered-all}
 use Rattle.laws.proofs.LoopLaws.{card_read}
+use Rattle.laws.proofs.TableLaws.{all_same}
 
-module _ (ks : List ℕ) (s t : ℕ) where
-  -- a condition of the two sets
-  abbrev pub member_test : ℕ → Bool
-  member_test i = not (has s i && has t i) && (not (has s i || has t i) || present ks i)
+-- a condition of the two sets
+abbrev pub member_test : ℕ → ℕ → ℕ × ℕ → Bool
+member_test s t (i, card) = not (has s i && has t i) && (not (has s i || has t i) || ltb 1 card)
 
-  pub member_is : (i : ℕ) (f g r : Bool) → i < length ks → f ≡ has s i → g ≡ has t i → r ≡ (not (f && g) && (not (f || g) || ltb 1 (get_or ks i 0))) → member_test i ≡ r
-  member_is i f g r h ef eg e = let k = ap (ltb 1) (card_read ks i h) in cc
-
-  pub sets_by : (a b e : Bool) → eqb s 0 ≡ a → eqb t 0 ≡ b → all 8 member_test ≡ e → sets_sound ks s t ≡ ((not a && not b) && e)
-  sets_by a b e p q r = cc
+-- two sets that are not empty, by the test of each condition
+pub sets_listed : (ks : List ℕ) (s t : ℕ) → length ks ≡ 8 → (s ≡ 0 → ⊥) × (t ≡ 0 → ⊥) → list_all (member_test s t) (enumerate_from 0 ks) ≡ sets_sound ks s t
+sets_listed ks s t e ne =
+    let test : ℕ → Bool = λ i. not (has s i && has t i) && (not (has s i || has t i) || present ks i) in
+    numbered-all (λ i card. member_test s t (i, card)) 0 ks
+    ∙ all_same (length ks) _ test (λ i h. let p = ap (ltb 1) (card_read ks i h) in rw (zero-add i, p))
+    ∙ ap (λ n. all n test) e
+    ∙ sym (rw (ne_eqb s 0 ne.0, ne_eqb t 0 ne.1))

@@ -1,8 +1,7 @@
 -- The promises of the two join calls.
-use Rattle.std.specs.Prelude.{ℕ, ◌≡◌, List, [], ◌∷◌, ◌++◌, ◌↔◌, T, length, drop}
+use Rattle.std.specs.Prelude.{ℕ, ◌≡◌, List, [], ◌∷◌, ◌++◌, ◌↔◌, T, Result, Ok, Err, length, drop}
 use Rattle.rules.specs.declared.Gate.{Gate}
-use Rattle.rules.specs.declared.Outcome.{Outcome}
-use Rattle.rules.specs.declared.Outcome.TheVariants.{Written, Refused}
+use Rattle.rules.specs.declared.Refusal.{Refusal}
 use Rattle.rules.specs.declared.Refusal.TheVariants.{NoJoin}
 use Rattle.rules.specs.Bytes.{at}
 use Rattle.rules.specs.Cell.{Blind, cells}
@@ -30,7 +29,33 @@ pub record Offered (shape : Shape) (lengths : List ℕ) (l : Limits) (s t : ℕ)
   pub sets : T (sets_sound (places_of shape) s t)
 
 module _ (shape : Shape) (lower upper : List ℕ) (gate : Gate) (s t : ℕ) where
-  -- the first call: its answer and every byte of its two output buffers, for every shape and all buffers
+  -- two functions that the gate joins within the limits lent
+  abbrev pub Joins : (ℕ → ℕ) → (ℕ → ℕ) → Type 0
+  Joins g h = Pair gate (places_of shape) shape.m s t (limits_of lower upper) g h
+
+  -- limits that hold exactly the functions that can be the first of two
+  abbrev pub HoldsFirst : Limits → Type 0
+  HoldsFirst l = (g : ℕ → ℕ) → Grades (places_of shape) shape.m g → Blind (places_of shape) t g
+      → Inside (places_of shape) l g ↔ ((h : ℕ → ℕ) × Joins g h)
+
+  -- limits that hold exactly the functions that complete g
+  abbrev pub HoldsSecond : List ℕ → Limits → Type 0
+  HoldsSecond g l = (h : ℕ → ℕ) → Grades (places_of shape) shape.m h → Blind (places_of shape) s h
+      → Inside (places_of shape) l h ↔ Joins (at g) h
+
+  -- both calls, by the verdict, the lengths of the buffers and what the limits written hold: the answer and every byte
+  -- of the two output buffers, for every shape and all buffers
+  pub record JoinCall (verdict : Verdict Limits) (lengths : List ℕ) (Holds : Limits → Type 0) (to_lower to_upper : List ℕ)
+      (r : Result (Unit {0}) Refusal) (to_lower' to_upper' : List ℕ) : Type 0 where
+    pub answer : r ≡ outcome_of verdict
+    pub means : outcome_means r ≡ answer_of (λ l. []) verdict
+    pub lower-after : to_lower' ≡ lower_after verdict (cells (places_of shape)) to_lower
+    pub upper-after : to_upper' ≡ upper_after verdict (cells (places_of shape)) to_upper
+    -- demand 2: refusal 8 exactly when there are no two functions
+    pub no_join : Offered shape lengths (limits_of lower upper) s t → (r ≡ Err NoJoin) ↔ ((g h : ℕ → ℕ) → Joins g h → ⊥)
+    pub exact : r ≡ Ok tt → Holds (limits_of to_lower' to_upper')
+
+  -- the first call
   module _ (to_lower to_upper : List ℕ) where
     abbrev pub first_lengths : List ℕ
     first_lengths = length lower ∷ length upper ∷ length to_lower ∷ length to_upper ∷ []
@@ -38,17 +63,8 @@ module _ (shape : Shape) (lower upper : List ℕ) (gate : Gate) (s t : ℕ) wher
     abbrev pub first_verdict : Verdict Limits
     first_verdict = join_first shape.n (cards_of shape) shape.m first_lengths (limits_of lower upper) gate s t
 
-    pub record JoinFirst (r : Outcome) (to_lower' to_upper' : List ℕ) : Type 0 where
-      pub answer : r ≡ outcome_of first_verdict
-      pub means : outcome_means r ≡ answer_of (λ l. []) first_verdict
-      pub lower-after : to_lower' ≡ lower_after first_verdict (cells (places_of shape)) to_lower
-      pub upper-after : to_upper' ≡ upper_after first_verdict (cells (places_of shape)) to_upper
-      -- demand 2: refusal 8 exactly when there are no two functions
-      pub no_join : Offered shape first_lengths (limits_of lower upper) s t
-          → (r ≡ Refused NoJoin) ↔ ((g h : ℕ → ℕ) → Pair gate (places_of shape) shape.m s t (limits_of lower upper) g h → ⊥)
-      -- and the limits written hold exactly the functions that can be the first of two
-      pub exact : r ≡ Written → (g : ℕ → ℕ) → Grades (places_of shape) shape.m g → Blind (places_of shape) t g
-          → Inside (places_of shape) (limits_of to_lower' to_upper') g ↔ ((h : ℕ → ℕ) × Pair gate (places_of shape) shape.m s t (limits_of lower upper) g h)
+    abbrev pub JoinFirst : Result (Unit {0}) Refusal → List ℕ → List ℕ → Type 0
+    JoinFirst r to_lower' to_upper' = JoinCall first_verdict first_lengths HoldsFirst to_lower to_upper r to_lower' to_upper'
 
   -- the second call, with the first block g
   module _ (g to_lower to_upper : List ℕ) where
@@ -58,13 +74,5 @@ module _ (shape : Shape) (lower upper : List ℕ) (gate : Gate) (s t : ℕ) wher
     abbrev pub second_verdict : Verdict Limits
     second_verdict = join_second shape.n (cards_of shape) shape.m second_lengths (limits_of lower upper) gate s t g
 
-    pub record JoinSecond (r : Outcome) (to_lower' to_upper' : List ℕ) : Type 0 where
-      pub answer : r ≡ outcome_of second_verdict
-      pub means : outcome_means r ≡ answer_of (λ l. []) second_verdict
-      pub lower-after : to_lower' ≡ lower_after second_verdict (cells (places_of shape)) to_lower
-      pub upper-after : to_upper' ≡ upper_after second_verdict (cells (places_of shape)) to_upper
-      pub no_join : Offered shape second_lengths (limits_of lower upper) s t
-          → (r ≡ Refused NoJoin) ↔ ((g h : ℕ → ℕ) → Pair gate (places_of shape) shape.m s t (limits_of lower upper) g h → ⊥)
-      -- the limits written hold exactly the functions that complete g
-      pub exact : r ≡ Written → (h : ℕ → ℕ) → Grades (places_of shape) shape.m h → Blind (places_of shape) s h
-          → Inside (places_of shape) (limits_of to_lower' to_upper') h ↔ Pair gate (places_of shape) shape.m s t (limits_of lower upper) (at g) h
+    abbrev pub JoinSecond : Result (Unit {0}) Refusal → List ℕ → List ℕ → Type 0
+    JoinSecond r to_lower' to_upper' = JoinCall second_verdict second_lengths (HoldsSecond g) to_lower to_upper r to_lower' to_upper'

@@ -1,8 +1,8 @@
 -- What the functions that both calls are made of ask and promise.
-use Rattle.std.specs.Prelude.{ℕ, ◌*◌, ◌≤◌, ◌≡◌, Bool, true, List, ◌++◌, leb, length, drop}
+use Rattle.std.specs.Prelude.{ℕ, ◌*◌, ◌≤◌, ◌≡◌, true, List, ◌++◌, Result, Ok, leb, length, drop}
 use Rattle.rules.specs.declared.Gate.{Gate}
-use Rattle.rules.specs.declared.Outcome.{Outcome}
-use Rattle.rules.specs.declared.Refusal.TheVariants.{ShapeRange, GradeLimits, Sets, ShortBuffer}
+use Rattle.rules.specs.declared.Refusal.{Refusal}
+use Rattle.rules.specs.declared.Refusal.TheVariants.{ShapeRange, GradeLimits, Sets, NoJoin, FirstBlock, ShortBuffer}
 use Rattle.rules.specs.Cell.{cells}
 use Rattle.rules.specs.Verdict.{accepted, unless, outcome_of}
 use Rattle.rules.specs.Limits.{Limits, limits_of, limits_sound}
@@ -20,7 +20,7 @@ pub record Ready (shape : Shape) (ks : List ℕ) (n : ℕ) (lower upper : List �
   pub high : shortest ≤ length upper
 
 -- rows 4, 10, 5 and 7, for whatever buffers the shortest of which has that length
-pub record Judgement (shape : Shape) (l : Limits) (s t shortest : ℕ) (r : Outcome) : Type 0 where
+pub record Judgement (shape : Shape) (l : Limits) (s t shortest : ℕ) (r : Result (Unit {0}) Refusal) : Type 0 where
   pub answer : r
       ≡ outcome_of
       (unless (is_sound shape) ShapeRange
@@ -45,8 +45,8 @@ module _ (gate : Gate) (ks : List ℕ) (m s t : ℕ) where
     pub opened : Opened gate ks m s t l n w
 
   -- it was opened: the answer is row 8's
-  pub record Opens (l : Limits) (n : ℕ) (w : List ℕ) (r : Bool) (w' : List ℕ) : Type 0 where
-    pub answer : r ≡ join_exists gate ks m s t l
+  pub record Opens (l : Limits) (n : ℕ) (w : List ℕ) (r : Result (Unit {0}) Refusal) (w' : List ℕ) : Type 0 where
+    pub answer : r ≡ outcome_of (unless (join_exists gate ks m s t l) NoJoin (accepted l))
     pub joining : Joining l n w'
     pub len : length w' ≡ length w
 
@@ -58,9 +58,9 @@ module _ (gate : Gate) (ks : List ℕ) (m s t : ℕ) where
     pub block : n ≤ length g
 
   -- whatever join was open: the answer is row 9's, and where g passes, the limits of the second block
-  pub record Completes (n : ℕ) (g w : List ℕ) (r : Bool) (w' : List ℕ) : Type 0 where
-    pub answer : (l : Limits) → Joining l n w → r ≡ block_sound ks t (first_limits gate ks m s t l) g
-    pub limits : (l : Limits) → Joining l n w → r ≡ true → Placed w' (4 * n) (second_limits gate ks m s t l g) n
+  pub record Completes (n : ℕ) (g w : List ℕ) (r : Result (Unit {0}) Refusal) (w' : List ℕ) : Type 0 where
+    pub answer : (l : Limits) → Joining l n w → r ≡ outcome_of (unless (block_sound ks t (first_limits gate ks m s t l) g) FirstBlock (accepted (second_limits gate ks m s t l g)))
+    pub limits : (l : Limits) → Joining l n w → r ≡ Ok tt → Placed w' (4 * n) (second_limits gate ks m s t l g) n
     pub len : length w' ≡ length w
 
 -- whatever limits of n cells stand in parts 4 and 5: two buffers hold them, and behind them what they held

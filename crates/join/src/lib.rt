@@ -1,12 +1,12 @@
 // The two join calls: the limits of the first block, and those of the second once the first is given.
 #![tactic(auto)]
 
-ghost use Rattle.std.specs.Prelude.{◌*◌, ◌≤◌, min, ◌≡◌, length};
+ghost use Rattle.std.specs.Prelude.{◌*◌, ◌≤◌, ◌≡◌, length};
 ghost use Rattle.rules.specs.Limits.{limits_of};
 ghost use Rattle.join.specs.Calls.{JoinFirst, JoinSecond};
 ghost use Rattle.join.specs.Steps.{Ready, Judgement, Opening, Opens, Given, Completes, Delivered};
 
-use rules::{Gate, Outcome, PLACES, Refusal};
+use rules::{Gate, PLACES, Refusal};
 use shape::Shape;
 use tables::{fill, limits};
 
@@ -15,14 +15,7 @@ mod sets;
 // Six tables of as many cells as a shape can have.
 const WORK: usize = 6144;
 
-fn shorter(a: usize, b: usize) -> usize
-    ensures { result ≡ min a b }
-{
-    if a < b { a } else { b }
-}
-
-// Rows 4, 10, 5 and 7, with the length of the shortest lent buffer. `Written` says that they let
-// the call pass; nothing is written yet.
+// Rows 4, 10, 5 and 7, with the length of the shortest lent buffer.
 fn judge(
     shape: Shape,
     ks: [u8; PLACES],
@@ -32,23 +25,23 @@ fn judge(
     shortest: usize,
     s: u8,
     t: u8,
-) -> Outcome
+) -> Result<(), Refusal>
     requires { Ready shape ks n lower.now upper.now shortest }
     ensures { Judgement shape (limits_of lower.now upper.now) s t shortest result }
 {
     if !shape.sound() {
-        return Outcome::Refused(Refusal::ShapeRange);
+        return Err(Refusal::ShapeRange);
     }
     if shortest < n {
-        return Outcome::Refused(Refusal::ShortBuffer);
+        return Err(Refusal::ShortBuffer);
     }
     if !limits::limits_sound(lower, upper, shape.m, n) {
-        return Outcome::Refused(Refusal::GradeLimits);
+        return Err(Refusal::GradeLimits);
     }
-    if sets::sets_sound(ks, s, t) {
-        return Outcome::Written;
+    if !sets::sets_sound(ks, s, t) {
+        return Err(Refusal::Sets);
     }
-    Outcome::Refused(Refusal::Sets)
+    Ok(())
 }
 
 // Opens the join under the lent limits in the work buffer. Row 8: whether it exists.
@@ -62,12 +55,15 @@ fn open(
     s: u8,
     t: u8,
     n: usize,
-) -> bool
+) -> Result<(), Refusal>
     requires { Opening ks m n lower.now upper.now w.old }
     ensures { Opens gate ks m s t (limits_of lower.now upper.now) n w.old result w.new }
 {
     join_tables::open_limits(w, lower, upper, gate, ks, m, s, t, n);
-    join_tables::exists(w, n)
+    if !join_tables::exists(w, n) {
+        return Err(Refusal::NoJoin);
+    }
+    Ok(())
 }
 
 // Of an open join that exists, given a first block g: parts 4 and 5 become the second block's limits.
@@ -81,17 +77,17 @@ fn second_given(
     t: u8,
     g: &[u8],
     n: usize,
-) -> bool
+) -> Result<(), Refusal>
     requires { Given gate ks m s t n g.now w.old }
     ensures { Completes gate ks m s t n g.now w.old result w.new }
 {
     join_tables::first_limits(w, gate, ks, m, t, n);
     fill::load(w, g, 2 * n, n);
     if !join_tables::block_sound(w, g, ks, t, n) {
-        return false;
+        return Err(Refusal::FirstBlock);
     }
     join_tables::second_limits(w, gate, ks, m, s, n);
-    true
+    Ok(())
 }
 
 // The limits in parts 4 and 5, to the two buffers lent for them.
@@ -113,25 +109,19 @@ pub fn join_first(
     t: u8,
     out_lower: &mut [u8],
     out_upper: &mut [u8],
-) -> Outcome
+) -> Result<(), Refusal>
     ensures { JoinFirst shape lower.now upper.now gate s t out_lower.old out_upper.old result out_lower.new out_upper.new }
 {
     let ks = shape.places();
     let n = places::cell_count(ks);
-    let outs = shorter(out_lower.len(), out_upper.len());
-    let shortest = shorter(lower.len(), shorter(upper.len(), outs));
-    match judge(shape, ks, n, lower, upper, shortest, s, t) {
-        Outcome::Refused(refusal) => Outcome::Refused(refusal),
-        Outcome::Written => {
-            let mut work = [0u8; WORK];
-            if !open(&mut work, lower, upper, gate, ks, shape.m, s, t, n) {
-                return Outcome::Refused(Refusal::NoJoin);
-            }
-            join_tables::first_limits(&mut work, gate, ks, shape.m, t, n);
-            deliver(&work, n, out_lower, out_upper);
-            Outcome::Written
-        }
-    }
+    let outs = out_lower.len().min(out_upper.len());
+    let shortest = lower.len().min(upper.len()).min(outs);
+    judge(shape, ks, n, lower, upper, shortest, s, t)?;
+    let mut work = [0u8; WORK];
+    open(&mut work, lower, upper, gate, ks, shape.m, s, t, n)?;
+    join_tables::first_limits(&mut work, gate, ks, shape.m, t, n);
+    deliver(&work, n, out_lower, out_upper);
+    Ok(())
 }
 
 // The limits of a join's second block, given the first.
@@ -145,25 +135,17 @@ pub fn join_second(
     g: &[u8],
     out_lower: &mut [u8],
     out_upper: &mut [u8],
-) -> Outcome
+) -> Result<(), Refusal>
     ensures { JoinSecond shape lower.now upper.now gate s t g.now out_lower.old out_upper.old result out_lower.new out_upper.new }
 {
     let ks = shape.places();
     let n = places::cell_count(ks);
-    let outs = shorter(out_lower.len(), out_upper.len());
-    let shortest = shorter(lower.len(), shorter(upper.len(), shorter(g.len(), outs)));
-    match judge(shape, ks, n, lower, upper, shortest, s, t) {
-        Outcome::Refused(refusal) => Outcome::Refused(refusal),
-        Outcome::Written => {
-            let mut work = [0u8; WORK];
-            if !open(&mut work, lower, upper, gate, ks, shape.m, s, t, n) {
-                return Outcome::Refused(Refusal::NoJoin);
-            }
-            if !second_given(&mut work, gate, ks, shape.m, s, t, g, n) {
-                return Outcome::Refused(Refusal::FirstBlock);
-            }
-            deliver(&work, n, out_lower, out_upper);
-            Outcome::Written
-        }
-    }
+    let outs = out_lower.len().min(out_upper.len());
+    let shortest = lower.len().min(upper.len()).min(g.len()).min(outs);
+    judge(shape, ks, n, lower, upper, shortest, s, t)?;
+    let mut work = [0u8; WORK];
+    open(&mut work, lower, upper, gate, ks, shape.m, s, t, n)?;
+    second_given(&mut work, gate, ks, shape.m, s, t, g, n)?;
+    deliver(&work, n, out_lower, out_upper);
+    Ok(())
 }

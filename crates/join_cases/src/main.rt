@@ -2,15 +2,15 @@
 // join can meet, and prints what it got: the answer, and both output buffers whole.
 #![tactic(auto)]
 
-use rules::{Gate, Outcome};
+use rules::{Gate, Refusal};
 use shape::Shape;
 
-fn show(name: &[u8], answer: Outcome, lower: &[u8], upper: &[u8]) {
+fn show(name: &[u8], answer: Result<(), Refusal>, lower: &[u8], upper: &[u8]) {
     printing::text(name);
     printing::text(b": ");
     match answer {
-        Outcome::Written => printing::text(b"limits"),
-        Outcome::Refused(refusal) => printing::refused(refusal),
+        Ok(()) => printing::text(b"limits"),
+        Err(refusal) => printing::refused(refusal),
     }
     printing::text(b", buffers");
     printing::limits(lower, upper);

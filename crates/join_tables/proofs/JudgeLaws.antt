@@ -14,7 +14,6 @@ use Rattle.tables.specs.Part.{part, Laid, Apart}
 use Rattle.tables.proofs.PartLaws.{part_at}
 use Rattle.join_tables.specs.Parts.{Holds, Placed, Within, Work, Blinded, Judged}
 use Rattle.join_tables.proofs.HoldLaws.{holds_at, laid-holds, laid-within, within_then, stays-below, stays_behind}
-use Rattle.join_tables.proofs.StepLaws.{behind}
 use Rattle.join_tables.proofs.BlindLaws.{own-greatest, block_by}
 
 -- a test of two tables that stand in a buffer
@@ -34,9 +33,6 @@ blinded ks set {g} r e p h l q =
 module _ (t : ℕ) {g w ks : List ℕ} {n : ℕ} (work : Work w ks n) (h : Holds w (2 * n) g n) where
   same : Within w n (2 * n) w
   same = record { len = refl; before = λ j h. refl; after = λ j h. refl }
-
-  pub blind_room : Apart w (2 * n) n n n
-  blind_room = let r = work.room in behind (2 * n) n n n (omega arith) (omega arith)
 
   -- the two tests of the limits
   module _ (l : Limits) (p : Placed w (4 * n) l n) where

@@ -9,8 +9,7 @@ use lib.Dec.{leb}
 use lib.ListN.{length}
 use Rattle.rules.specs.declared.Gate.{Gate}
 use Rattle.rules.specs.Bytes.{at, tabulate, all}
-use Rattle.rules.specs.Cell.{cells, greatest_over, least_over}
-use Rattle.rules.specs.Limits.{Limits}
+use Rattle.rules.specs.Cell.{cells, greatest_over}
 use Rattle.rules.specs.Join.{above, u_a, u_b, exchange_for}
 use Rattle.laws.proofs.TableLaws.{at-tabulate, tabulate-same, all_same}
 use Rattle.laws.proofs.TestLaws.{by_order}
@@ -18,8 +17,8 @@ use Rattle.laws.proofs.JoinLaws.{above_le}
 use Rattle.laws.proofs.OverLaws.{max-bound, over-bound}
 use Rattle.tables.specs.Part.{part, Laid, Apart}
 use Rattle.tables.proofs.PartLaws.{part_at}
-use Rattle.join_tables.specs.Parts.{turned, Below, Holds, Within, Exchanging, Exchanged, Work, Opened, Existing, First, Second}
-use Rattle.join_tables.proofs.HoldLaws.{holds_at, laid-holds, laid-within, within_then, stays-below, stays_behind}
+use Rattle.join_tables.specs.Parts.{turned, Below, Holds, Within, Exchanging, Exchanged, Work, Existing, First, Second}
+use Rattle.join_tables.proofs.HoldLaws.{holds_at, laid-within, within_then, stays-below, stays_behind}
 use Rattle.join_tables.proofs.TurnLaws.{turned-holds}
 
 -- parts to read and to write, one behind the other
@@ -65,16 +64,6 @@ grades-both : {w : List ℕ} {m : ℕ} (a b n : ℕ) → a + n ≡ b → Below w
 grades-both {w} {m} a b n e p q =
     record { grade = λ c lt. by_order n c (λ le. let i : b + (c - n) ≡ a + c = omega arith in subst (λ (j : ℕ). at w j ≤ m - 1) i (q.grade (c - n) (omega arith))) (λ less. p.grade c less) }
 
--- the join under lent limits: both blocks' upper limits are made
-pub opened : (gate : Gate) (ks : List ℕ) (m s t : ℕ) (l : Limits) {n : ℕ} {w v₁ v₂ w' : List ℕ}
-    → let x = exchange_for gate ks m l in
-    Laid w 0 x.lower n v₁ → Laid v₁ (2 * n) (least_over ks t x.upper) n v₂ → Laid v₂ (3 * n) (least_over ks s x.upper) n w' → Opened gate ks m s t l n w'
-opened gate ks m s t l low a b =
-    record {
-      begun = record { lows = stays-below (laid-within b) (omega arith) (stays-below (laid-within a) (omega arith) (laid-holds low)); seconds = laid-holds b };
-      firsts = stays-below (laid-within b) (omega arith) (laid-holds a);
-    }
-
 -- whether the join exists
 pub existing : {w : List ℕ} {n : ℕ} (r : Bool) → r ≡ all n (λ c. leb (at (part w 0 n) c) (max (at (part w (2 * n) n) c) (at (part w (3 * n) n) c))) → Existing n w r
 existing {w} {n} r e =
@@ -94,12 +83,6 @@ module _ (gate : Gate) {w ks : List ℕ} {m n : ℕ} (work : Work w ks n) (some 
   room = work.room
 
   -- the first block's limits
-  pub first-low : Apart w 0 n n n
-  first-low = let r = room in before 0 n n n (omega arith) (omega arith)
-
-  pub first-high : Apart w (3 * n) n n n
-  first-high = let r = room in behind (3 * n) n n n (omega arith) (omega arith)
-
   module _ (t : ℕ) {v : List ℕ} (a : Laid w n (greatest_over ks t (tabulate n (λ c. above (at (part w 0 n) c) (at (part w (3 * n) n) c)))) n v) where
     pub first-exchange : Below w 0 n m → Below w (2 * n) n m → Exchanging v m n (4 * n) n
     first-exchange p q =
@@ -129,16 +112,7 @@ module _ (gate : Gate) {w ks : List ℕ} {m n : ℕ} (work : Work w ks n) (some 
         }
 
   -- the second block's
-  pub second_block : Below w (2 * n) n m → (1 ≤ m) × Apart w (2 * n) n n n × Below w (2 * n) n m
-  second_block b = let r = room in (some, behind (2 * n) n n n (omega arith) (omega arith), b)
-
   module _ {v₁ : List ℕ} (x : Laid w n (turned gate n m (part w (2 * n) n)) n v₁) where
-    pub second-low : Apart v₁ 0 n (2 * n) n
-    second-low = let r = room in let k = x.len in before 0 n (2 * n) n (omega arith) (omega arith)
-
-    pub second-high : Apart v₁ n n (2 * n) n
-    second-high = let r = room in let k = x.len in before n n (2 * n) n (omega arith) (omega arith)
-
     module _ (s : ℕ) {v₂ : List ℕ} (a : Laid v₁ (2 * n) (greatest_over ks s (tabulate n (λ c. above (at (part v₁ 0 n) c) (at (part v₁ n n) c)))) n v₂) where
       pub second-exchange : Below w 0 n m → Below w (3 * n) n m → Exchanging v₂ m (2 * n) (4 * n) n
       second-exchange p q =

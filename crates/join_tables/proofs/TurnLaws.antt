@@ -4,7 +4,7 @@ use mathlib.Core.Path.{◌≡◌, sym, ◌∙◌, ap, subst}
 use mathlib.Core.Bool.{Bool}
 use mathlib.Core.List.{List}
 use mathlib.Core.Logic.{inl, inr, ⊎_elim}
-use native.Mathlib.Nat.{add-zero, zero-add}
+use native.Mathlib.Nat.{add-zero, add_assoc, zero-add}
 use native.Mathlib.Omega.{arith}
 use lib.ListN.{length}
 use Rattle.rules.specs.declared.Gate.{Gate}
@@ -20,10 +20,10 @@ use Rattle.tables.specs.Part.{part, Laid, Two, Shaped}
 use Rattle.tables.specs.Line.{best}
 use Rattle.tables.proofs.PartLaws.{part_at, laid_then, laid_as}
 use Rattle.tables.proofs.LineLaws.{best-bound}
-use Rattle.tables.proofs.LendLaws.{lent, lent_length, front, front_length, front_at, back, laid-back, laid_alone}
-use Rattle.rows.specs.Grades.{source, Reads}
-use Rattle.rows.proofs.GradesLaws.{there, from_lent}
-use Rattle.join_tables.specs.Parts.{side, turned, Below, Holds, Placed, Within, Exchanging, Exchanged}
+use Rattle.tables.proofs.LendLaws.{lent, front, front_length, front_at, back, laid-back, laid_alone}
+use Rattle.rows.specs.Grades.{source}
+use Rattle.rows.proofs.GradesLaws.{there}
+use Rattle.join_tables.specs.Parts.{turned, Below, Holds, Exchanging, Exchanged}
 use Rattle.join_tables.proofs.HoldLaws.{laid-within, within_then, stays-below}
 
 pub below-part : {w : List ℕ} {a n m : ℕ} → Below w a n m → (c : ℕ) → c < n → at (part w a n) c ≤ m - 1
@@ -45,20 +45,32 @@ turned-holds Min ks m {w} {a} {to} {n} {t} {w'} e l h =
 pub lacking : (ks : List ℕ) (m : ℕ) (x : List ℕ) {a n : ℕ} {w w' : List ℕ} → n ≡ cells ks → Laid w a (tabulate n (λ c. m - 1 - at x c)) n w' → Laid w a (complement ks m x) n w'
 lacking ks m x e l = laid_as (ap (λ (i : ℕ). tabulate i (λ c. m - 1 - at x c)) e) l
 
--- limits exchanged: the two sources lie within them
-pub side_in : (gate : Gate) {a x y : ℕ} (lo hi : ℕ) → a ≡ side gate x y → lo ≤ x → lo ≤ y → x ≤ hi → y ≤ hi → (lo ≤ a) × (a ≤ hi)
-side_in Max lo hi e p q r u = (omega arith, omega arith)
-side_in Min lo hi e p q r u = (omega arith, omega arith)
-
+-- limits exchanged
 module _ {w : List ℕ} {m from to n : ℕ} (p : Exchanging w m from to n) where
-  pub side-ready : (a d : ℕ) → from ≤ a → a ≤ from + n → to ≤ d → d ≤ to + n → (1 ≤ m) × Two w a d n × Below w a n m
-  side-ready a d la ha ld hd =
+  pub turn_ready : (a d : ℕ) → from ≤ a → a ≤ from + n → to ≤ d → d ≤ to + n → Two w a d n × ((c : ℕ) → c < n → at (part w a n) c ≤ m - 1)
+  turn_ready a d la ha ld hd =
       let s = p.parts.src in
       let t = p.parts.dst in (
-        p.some,
         record { src = omega arith; dst = omega arith; apart = ⊎_elim (λ q. inl (omega arith)) (λ q. inr (omega arith)) p.parts.apart },
-        record { grade = λ c lt. let e : from + (a - from + c) ≡ a + c = omega arith in subst (λ (j : ℕ). at w j ≤ m - 1) e (p.grades.grade (a - from + c) (omega arith)) },
+        λ c lt. rw (part_at w a n c lt) (let e : from + (a - from + c) ≡ a + c = omega arith in subst (λ (j : ℕ). at w j ≤ m - 1) e (p.grades.grade (a - from + c) (omega arith))),
       )
+
+  -- for max both tables are copied at once
+  pub exchanged_max : {w' : List ℕ} → Laid w to (part w from (2 * n)) (2 * n) w' → Exchanged Max w m from to n w'
+  exchanged_max {w'} l =
+      record {
+        limits = λ ks x e h.
+            record {
+              lows = record { here = λ c lt. l.here c (omega arith) ∙ part_at w from (2 * n) c (omega arith) ∙ h.lows.here c lt };
+              highs =
+                  record {
+                    here = λ c lt.
+                        ap (at w') (add_assoc to n c) ∙ l.here (n + c) (omega arith) ∙ part_at w from (2 * n) (n + c) (omega arith)
+                        ∙ ap (at w) (sym (add_assoc from n c)) ∙ h.highs.here c lt;
+                  };
+            };
+        kept = laid-within l;
+      }
 
   module _ {t v : List ℕ} (l : Laid w to t n v) where
     source_stays : (j : ℕ) → from ≤ j → j < from + 2 * n → at v j ≡ at w j
@@ -75,34 +87,16 @@ module _ {w : List ℕ} {m from to n : ℕ} (p : Exchanging w m from to n) where
           grades = record { grade = λ c lt. rw (source_stays (from + c) (omega arith) (omega arith)) (p.grades.grade c lt) };
         }
 
-    holds_on : {a : ℕ} {u : List ℕ} → from ≤ a → a ≤ from + n → Holds w a u n → Holds v a u n
-    holds_on {a} {u} lo hi h = record { here = λ c lt. source_stays (a + c) (omega arith) (omega arith) ∙ h.here c lt }
-
-  module _ (gate : Gate) (a b : ℕ) (ea : a ≡ side gate from (from + n)) (eb : b ≡ side gate (from + n) from) {v w' : List ℕ}
-      (l : Laid w to (turned gate n m (part w a n)) n v) (k : Laid v (to + n) (turned gate n m (part v b n)) n w') where
-    both : (ks : List ℕ) (x y : List ℕ) → n ≡ cells ks → Holds w a x n → Holds w b y n
-        → Placed w' to (record { lower = exchange_block_for gate ks m x; upper = exchange_block_for gate ks m y }) n
-    both ks x y e hx hy =
-        let i = side_in gate from (from + n) eb (omega arith) (omega arith) (omega arith) (omega arith) in
-        record {
-          lows = stays-below (laid-within k) (omega arith) (turned-holds gate ks m e l hx);
-          highs = turned-holds gate ks m e k (holds_on l i.0 i.1 hy);
-        }
-
-  exchanged_kept : {t u v w' : List ℕ} → Laid w to t n v → Laid v (to + n) u n w' → Within w to (to + 2 * n) w'
-  exchanged_kept l k = within_then to (to + 2 * n) (laid-within l) (laid-within k) (omega arith) (omega arith) (omega arith) (omega arith)
-
-  pub exchanged : (gate : Gate) (a b : ℕ) → a ≡ side gate from (from + n) → b ≡ side gate (from + n) from → {v w' : List ℕ}
-      → Laid w to (turned gate n m (part w a n)) n v → Laid v (to + n) (turned gate n m (part v b n)) n w' → Exchanged gate w m from to n w'
-  exchanged Max a b ea eb l k =
+  -- for min the upper limits come first
+  pub exchanged_min : {v w' : List ℕ} → Laid w to (turned Min n m (part w (from + n) n)) n v → Laid v (to + n) (turned Min n m (part v from n)) n w' → Exchanged Min w m from to n w'
+  exchanged_min l k =
       record {
-        limits = λ ks x e h. both Max a b ea eb l k ks x.lower x.upper e (rw ea h.lows) (rw eb h.highs);
-        kept = exchanged_kept l k;
-      }
-  exchanged Min a b ea eb l k =
-      record {
-        limits = λ ks x e h. both Min a b ea eb l k ks x.upper x.lower e (rw ea h.highs) (rw eb h.lows);
-        kept = exchanged_kept l k;
+        limits = λ ks x e h.
+            record {
+              lows = stays-below (laid-within k) (omega arith) (turned-holds Min ks m e l h.highs);
+              highs = turned-holds Min ks m e k (record { here = λ c lt. source_stays l (from + c) (omega arith) (omega arith) ∙ h.lows.here c lt });
+            };
+        kept = within_then to (to + 2 * n) (laid-within l) (laid-within k) (omega arith) (omega arith) (omega arith) (omega arith);
       }
 
 -- an extreme over a set: of a table that was just laid
@@ -115,9 +109,6 @@ over-laid greatest ks set {n} {a} {w} {t} {v} {w'} e l k =
 module _ {ks : List ℕ} (shaped : Shaped ks) {n : ℕ} (e : n ≡ cells ks) (a : ℕ) (w : List ℕ) (room : a + n ≤ length w) where
   some : 1 ≤ n
   some = omega (arith, cells_pos ks shaped.some)
-
-  pub reads-lent : (x : List ℕ) → n ≤ length x → Reads (front n x) (lent a n w) 0 0 n
-  reads-lent x le = let k = front_length n x le in from_lent (front n x) (lent a n w) (omega (arith, some)) (omega arith) (omega (arith, lent_length a n w room))
 
   module _ (greatest : Bool) (set : ℕ) {v : List ℕ} where
     over-back : (u t : List ℕ) → ((c : ℕ) → c < n → at u c ≡ at t c) → Laid (lent a n w) 0 (over (best greatest) ks set (part u 0 n)) n v → Laid w a (over (best greatest) ks set t) n (back a n w v)

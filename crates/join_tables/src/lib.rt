@@ -9,20 +9,10 @@ ghost use Rattle.rules.specs.Limits.{limits_of};
 ghost use Rattle.rules.specs.Join.{above, exchange_for};
 ghost use Rattle.tables.specs.Line.{best};
 ghost use Rattle.tables.specs.Part.{part, Laid, Two, Shaped};
-ghost use Rattle.join_tables.specs.Parts.{side, turned, Below, Holds, Exchanging, Exchanged, Work, Lent, Opened, Existing, First, Second, Blinded, Judged};
+ghost use Rattle.join_tables.specs.Parts.{turned, Below, Holds, Exchanging, Exchanged, Work, Lent, Opened, Existing, First, Second, Blinded, Judged};
 
 use rules::{Gate, PLACES};
 use tables::{fill, tests};
-
-// Which of two offsets an exchange reads: the first for max, the second for min.
-fn side(gate: Gate, a: usize, b: usize) -> usize
-    ensures { result ≡ side gate a b }
-{
-    match gate {
-        Gate::Max => a,
-        Gate::Min => b,
-    }
-}
 
 // One table as the max join wants it.
 pub fn exchange_block(w: &mut [u8], gate: Gate, m: u8, from: usize, to: usize, n: usize)
@@ -41,9 +31,13 @@ fn exchange(w: &mut [u8], gate: Gate, m: u8, from: usize, to: usize, n: usize)
     requires { Exchanging w.old m from to n }
     ensures { Exchanged gate w.old m from to n w.new }
 {
-    let next = from + n;
-    exchange_block(w, gate, m, side(gate, from, next), to, n);
-    exchange_block(w, gate, m, side(gate, next, from), to + n, n);
+    match gate {
+        Gate::Max => fill::copy(w, from, to, 2 * n),
+        Gate::Min => {
+            fill::complement(w, m - 1, from + n, to, n);
+            fill::complement(w, m - 1, from, to + n, n);
+        }
+    }
 }
 
 // The extreme over a set of the table at `to`, in its place.
@@ -51,8 +45,7 @@ pub fn over_part(w: &mut [u8], greatest: bool, ks: [u8; PLACES], set: u8, to: us
     requires { Shaped ks × (n ≡ cells ks) × (to + n ≤ length w.old) }
     ensures { Laid w.old to (over (best greatest) ks set (part w.old to n)) n w.new }
 {
-    let none = [0u8; 0];
-    extremes::over_set(&none, &mut w[to..to + n], greatest, ks, set, n, 0, 0);
+    extremes::over_set(&[], &mut w[to..to + n], greatest, ks, set, n, 0, 0);
 }
 
 // The extreme over a set of a lent table, at `to`.
@@ -196,11 +189,7 @@ pub fn block_sound(w: &mut [u8], g: &[u8], ks: [u8; PLACES], t: u8, n: usize) ->
     requires { Work w.old ks n × (n ≤ length g.now) × Holds w.old (2 * n) g.now n }
     ensures { Judged ks t n g.now w.old result w.new }
 {
-    if !tests::fits(w, 4 * n, 2 * n, n) {
-        return false;
-    }
-    if !tests::fits(w, 2 * n, 5 * n, n) {
-        return false;
-    }
-    blind(w, g, ks, t, 2 * n, n, n)
+    tests::fits(w, 4 * n, 2 * n, n)
+        && tests::fits(w, 2 * n, 5 * n, n)
+        && blind(w, g, ks, t, 2 * n, n, n)
 }

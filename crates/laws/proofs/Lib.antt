@@ -1,4 +1,5 @@
 pub mod TestLaws
+pub mod ChainLaws
 pub mod VerdictLaws
 pub mod RefusalLaws
 pub mod RecordLaws

@@ -1,12 +1,13 @@
 -- Records as parts of a file or of a network, and of what stands at a buffer's front.
-use Prim.Native.Nat.{ℕ, zero, suc, ◌+◌, ◌-◌, ◌*◌, ◌≤◌, ◌<◌}
+use Prim.Native.Nat.{ℕ, zero, suc, ◌+◌, ◌-◌, ◌*◌, ◌/◌, ◌≤◌, ◌<◌}
 use mathlib.Core.Path.{◌≡◌, refl, sym, ◌∙◌, ap, ap₂}
-use mathlib.Core.List.{List, ◌∷◌, ◌++◌, append_assoc, append-nil}
+use mathlib.Core.List.{List, [], ◌∷◌, ◌++◌, append_assoc, append-nil}
 use native.Mathlib.Nat.{add-zero, zero-add, le_refl, mul-suc, not-suc-le-zero, le_of_suc-le-suc}
 use native.Mathlib.Numerals.{add-one}
 use native.Mathlib.Omega.{arith}
-use lib.ListN.{length, take, drop, length-append, length-take, length-drop}
+use lib.ListN.{length, take, drop, get_or, length-append, length-take, length-drop}
 use lib.Seq.{take_at, take-append-le, take-add, drop-append-le, drop-append-add, drop-drop}
+use Rattle.std.specs.Simd.{first_chunks}
 use Rattle.rules.specs.Bytes.{record_at, map_records}
 use Rattle.rules.specs.Network.{Record, record_of, records_from}
 
@@ -19,6 +20,17 @@ module _ (file : List ℕ) (k : ℕ) where
 
   pub part_length : 16 * k + 16 ≤ length file → length (take (16 * k + 16 - 16 * k) (drop (16 * k) file)) ≡ 16
   part_length h = ap length part_record ∙ record_length h
+
+-- record k of a file that is taken as arrays of sixteen bytes
+chunk-record : (file : List ℕ) (n k : ℕ) → k < n → get_or (first_chunks 16 n file) k [] ≡ record_at file k
+chunk-record file zero k h = absurd (not-suc-le-zero h)
+chunk-record file (suc n) zero h = refl
+chunk-record file (suc n) (suc k) h =
+    let e : 16 + 16 * k ≡ 16 * suc k = omega (arith, mul-suc 16 k) in
+    chunk-record (drop 16 file) n k (le_of_suc-le-suc h) ∙ ap (take 16) (drop-drop (16 * k) 16 file ∙ ap (λ (j : ℕ). drop j file) e)
+
+pub record_read : {chunks : List (List ℕ)} (file : List ℕ) (k : ℕ) → chunks ≡ first_chunks 16 (length file / 16) file → k < length file / 16 → get_or chunks k [] ≡ record_at file k
+record_read file k e h = ap (λ (l : List (List ℕ)). get_or l k []) e ∙ chunk-record file (length file / 16) k h
 
 -- the record at the front, and those behind it
 pub record_first : (a rest : List ℕ) → length a ≡ 16 → record_at (a ++ rest) 0 ≡ a
@@ -83,8 +95,3 @@ module _ (f : List ℕ → List ℕ) (file : List ℕ) where
       ∙ ap (λ (l : List ℕ). record_at whole k ++ take (16 * n) l) (sym (drop-drop 16 (16 * k) whole))
       ∙ sym (take-add 16 (16 * n) (drop (16 * k) whole))
       ∙ ap (λ (i : ℕ). take i (drop (16 * k) whole)) b
-
-  pub map-front : (rest : List ℕ) (k n : ℕ) → 16 * (k + n) ≤ length file → map_records f (file ++ rest) k n ≡ map_records f file k n
-  map-front rest k zero h = refl
-  map-front rest k (suc n) h =
-      ap₂ (λ (x y : List ℕ). f x ++ y) (record_front file rest k (omega arith)) (map-front rest (suc k) n (omega arith))

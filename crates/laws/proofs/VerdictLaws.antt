@@ -1,12 +1,14 @@
 -- Verdicts: a row that was passed, one that stops a call; that no call is both accepted and refused, and no check both within and outside.
 use Prim.Native.Nat.{ℕ}
-use mathlib.Core.Path.{◌≡◌, refl, sym, ap}
+use mathlib.Core.Path.{◌≡◌, refl, sym, ◌∙◌, ap}
 use mathlib.Core.Bool.{Bool, true, false}
-use mathlib.Core.List.{[]}
+use mathlib.Core.List.{List}
 use native.Mathlib.Omega.{arith}
-use Rattle.rules.specs.declared.Outcome.TheVariants.{Written, Refused}
+use Rattle.std.specs.Prelude.{Result, Ok, Err}
+use Rattle.std.specs.Result.{IsErrAnd}
+use Rattle.std.proofs.lemmas.Result.{err_from_is_err_and}
 use Rattle.rules.specs.declared.Refusal.{Refusal}
-use Rattle.rules.specs.Verdict.{Verdict, accepted, refused, unless, and_then, answer_of, outcome_of, outcome_means}
+use Rattle.rules.specs.Verdict.{Verdict, accepted, refused, unless, and_then, result_of, verdict_of, outcome_of, says, answer_of}
 use Rattle.rules.specs.NetworkCalls.{within, outside}
 
 pub refused-accepted : {A P : Type 0} {q : Refusal} {x : A} → ◌≡◌ {A = Verdict A} (refused q) (accepted x) → P
@@ -48,22 +50,49 @@ pub last_passed : {A : Type 0} (v : Verdict A) (test : A → Bool) (q : Refusal)
 last_passed (accepted y) test q e = (row_passed (test y) q (accepted y) e).1
 last_passed (refused p) test q e = refused-accepted e
 
--- what is answered where the result is in lent buffers
-pub outcome_means_lem : {A : Type 0} (v : Verdict A) → outcome_means (outcome_of v) ≡ answer_of (λ a. []) v
-outcome_means_lem (accepted a) = refl
-outcome_means_lem (refused q) = refl
+-- three rows, and what is below them
+pub below_rows : {A : Type 0} (a b d : Bool) (p q r : Refusal) (v : Verdict A) → unless a p (unless b q (unless d r v)) ≡ and_then (unless a p (unless b q (unless d r (accepted (tt {0}))))) (λ u. v)
+below_rows true true true p q r v = refl
+below_rows true true false p q r v = refl
+below_rows true false d p q r v = refl
+below_rows false b d p q r v = refl
 
-pub written-refused : {P : Type 0} {q : Refusal} → Written ≡ Refused q → P
-written-refused e = let z : ◌≡◌ {A = ℕ} 0 1 = cc in absurd (omega arith)
+-- what is answered, in 01's numbers: what comes of what is accepted says its values
+pub result-says : {A B : Type 0} (value : A → B) (values : B → List ℕ) (v : Verdict A) → says values (result_of value v) ≡ answer_of (λ a. values (value a)) v
+result-says value values (accepted a) = refl
+result-says value values (refused q) = refl
 
-pub refused-written : {P : Type 0} {q : Refusal} → Refused q ≡ Written → P
-refused-written e = written-refused (sym e)
+-- what an answer says, by its verdict
+pub says-verdict : {A B : Type 0} (value : A → B) (values : B → List ℕ) (answer : Result A Refusal) → says (λ a. values (value a)) answer ≡ answer_of values (verdict_of value answer)
+says-verdict value values (Ok a) = refl
+says-verdict value values (Err q) = refl
 
--- the verdict behind it
-pub was_written : {A : Type 0} (v : Verdict A) → Written ≡ outcome_of v → (x : A) × (v ≡ accepted x)
-was_written (accepted x) e = (x, refl)
-was_written (refused q) e = written-refused e
+-- the verdict behind an answer
+pub verdict-result : {A B C : Type 0} (value : A → B) (back : B → C) (v : Verdict A) → verdict_of back (result_of value v) ≡ and_then v (λ a. accepted (back (value a)))
+verdict-result value back (accepted a) = refl
+verdict-result value back (refused q) = refl
 
-pub was_refused : {A : Type 0} (v : Verdict A) {q : Refusal} → Refused q ≡ outcome_of v → v ≡ refused q
-was_refused (accepted x) e = refused-written e
-was_refused (refused p) e = cc
+pub ok-err : {A E P : Type 0} {a : A} {e : E} → ◌≡◌ {A = Result A E} (Ok a) (Err e) → P
+ok-err e = let z : ◌≡◌ {A = ℕ} 0 1 = cc in absurd (omega arith)
+
+pub err-ok : {A E P : Type 0} {a : A} {e : E} → ◌≡◌ {A = Result A E} (Err e) (Ok a) → P
+err-ok e = ok-err (sym e)
+
+pub ok_same : {A E : Type 0} {x y : A} → ◌≡◌ {A = Result A E} (Ok x) (Ok y) → x ≡ y
+ok_same e = cc
+
+-- what a `?` hands on
+pub handed_on : {A E : Type 0} {r : Result A E} {q : E} → IsErrAnd r (λ p. p ≡ q) → r ≡ Err q
+handed_on {r = r} h = let p = err_from_is_err_and r h in p.1 ∙ ap Err p.2
+
+pub was_ok : {A B : Type 0} (value : A → B) (v : Verdict A) {b : B} → Ok b ≡ result_of value v → (x : A) × (v ≡ accepted x)
+was_ok value (accepted x) e = (x, refl)
+was_ok value (refused q) e = ok-err e
+
+pub was_err : {A B : Type 0} (value : A → B) (v : Verdict A) {q : Refusal} → Err q ≡ result_of value v → v ≡ refused q
+was_err value (accepted x) e = err-ok e
+was_err value (refused p) e = cc
+
+-- a row that did not stop a function
+pub row_ok : {A : Type 0} (b : Bool) (q : Refusal) (v : Verdict A) {r : Result (Unit {0}) Refusal} {u : Unit {0}} → r ≡ outcome_of (unless b q v) → r ≡ Ok u → b ≡ true
+row_ok b q v is e = (row_passed b q v (was_ok (λ a. tt) _ (sym e ∙ is)).1).0

@@ -2,3 +2,4 @@
 pub mod LeastLaws
 pub mod BelowLaws
 pub mod AlongLaws
+pub mod WalkLaws

@@ -2,6 +2,8 @@
 // one's line with no division, and a grade against those along a line, with no more of them read than decide.
 #![tactic(auto)]
 
+pub mod walk;
+
 ghost use Rattle.std.specs.Prelude.{◌+◌, ◌*◌, ◌≤◌, ◌≡◌, false, not, leb};
 ghost use Rattle.tables.specs.Line.{line_best, Line};
 ghost use Rattle.lines.specs.Along.{LineOn, least_on, first, Next};
@@ -33,30 +35,21 @@ pub fn next(on: Along) -> Along
     requires { (on.back + on.step ≤ on.step * on.card) × (on.step * on.card ≤ 1024) }
     ensures { Next on result }
 {
-    let step = on.step;
-    let card = on.card;
     if 1 < on.ahead {
         return Along {
-            step,
-            card,
-            back: on.back,
             ahead: on.ahead - 1,
+            ..on
         };
     }
-    let back = on.back + step;
-    if back < step * card {
-        return Along {
-            step,
-            card,
-            back,
-            ahead: step,
-        };
+    let ahead = on.step;
+    let back = on.back + on.step;
+    if back < on.step * on.card {
+        return Along { back, ahead, ..on };
     }
     Along {
-        step,
-        card,
         back: 0,
-        ahead: step,
+        ahead,
+        ..on
     }
 }
 
@@ -65,12 +58,7 @@ fn below(w: &[u8], a: usize, step: usize, card: usize, grade: u8) -> bool
     requires { Line w.now a step card }
     ensures { result ≡ not (leb grade (line_best false w.now a step card)) }
 {
-    for v in 0..card {
-        if w[a + step * v] < grade {
-            return true;
-        }
-    }
-    false
+    (0..card).any(|v| w[a + step * v] < grade)
 }
 
 // The same along the line through cell c of a table.

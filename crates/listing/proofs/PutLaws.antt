@@ -1,26 +1,19 @@
 -- Texts laid one behind the other.
-use Prim.Native.Nat.{ℕ, zero, suc, ◌+◌, ◌≤◌}
+use Prim.Native.Nat.{ℕ, zero, suc, ◌+◌, ◌-◌, ◌≤◌, ◌<◌}
 use mathlib.Core.Path.{◌≡◌, refl, sym, ◌∙◌, ap, ap₂, subst}
-use mathlib.Core.List.{List, [], ◌++◌, append_assoc, append-nil}
+use mathlib.Core.List.{List, [], ◌∷◌, ◌++◌, append_assoc, append-nil}
 use native.Mathlib.Nat.{add-zero, zero-add}
 use native.Mathlib.Numerals.{add-one}
 use native.Mathlib.Omega.{arith}
-use lib.ListN.{length, take, length-append, length-take}
-use Rattle.rules.specs.Bytes.{at, tabulate, tabulate_from, record_at}
+use lib.ListN.{length, take, drop, length-append, length-take, length-drop}
+use lib.Seq.{take-suc, get_or-take, get_or-drop}
+use Rattle.rules.specs.Bytes.{at, tabulate, record_at}
 use Rattle.rules.specs.Network.{record_of, records_from}
 use Rattle.rules.specs.Listing.{field, fields, record_line, lines_from}
 use Rattle.tables.specs.Part.{part, Laid}
-use Rattle.tables.proofs.PartLaws.{Filled, filled_laid, laid-append, laid-part}
-use Rattle.listing.specs.Putting.{Put}
-
--- no text
-pub put-none : (w : List ℕ) (a : ℕ) → Put w a [] 0 a w
-put-none w a =
-    record {
-      end = omega arith;
-      few = omega arith;
-      laid = record { len = refl; here = λ k h. absurd (omega arith); before = λ j h. refl; after = λ j h. refl };
-    }
+use Rattle.tables.proofs.PartLaws.{laid-append, laid-part}
+use Rattle.laws.proofs.TableLaws.{tabulate_self}
+use Rattle.listing.specs.Putting.{Put, grade_bytes}
 
 -- a text behind another
 pub put_then : {w : List ℕ} {a : ℕ} {t : List ℕ} {n b : ℕ} {v u : List ℕ} {m c : ℕ} {w' : List ℕ} → Put w a t n b v → Put v b u m c w' → Put w a (t ++ u) (n + m) c w'
@@ -39,20 +32,29 @@ put_as {w} {a} {t} {n} {b} {w'} e p = subst (λ (u : List ℕ). Put w a u n b w'
 pub put-within : {w : List ℕ} {a : ℕ} {t : List ℕ} {n b : ℕ} {w' : List ℕ} (m : ℕ) → n ≤ m → Put w a t n b w' → Put w a t m b w'
 put-within m h p = record { end = p.end; few = let x = p.few in omega arith; laid = p.laid }
 
--- a loop's end
-pub filled_put : {w : List ℕ} {a c b : ℕ} {w' : List ℕ} (t : List ℕ) → c ≡ length t → b ≡ a + length t → Filled w a (at t) c w' → Put w a t (length t) b w'
-filled_put t e f p = record { end = f; few = omega arith; laid = filled_laid t (length t) e p (λ k h. refl) }
-
 -- one field more
-fields_from : (f : ℕ → ℕ) (i n : ℕ) → fields (tabulate_from f i (suc n)) ≡ fields (tabulate_from f i n) ++ field (f (i + n))
-fields_from f i zero = append-nil (field (f i)) ∙ ap (λ (k : ℕ). field (f k)) (sym (add-zero i))
-fields_from f i (suc n) =
-    let e : suc i + n ≡ i + suc n = omega arith in
-    ap (λ (t : List ℕ). field (f i) ++ t) (fields_from f (suc i) n ∙ ap (λ (k : ℕ). fields (tabulate_from f (suc i) n) ++ field (f k)) e)
-    ∙ sym (append_assoc (field (f i)) (fields (tabulate_from f (suc i) n)) (field (f (i + suc n))))
+fields-append : (xs ys : List ℕ) → fields (xs ++ ys) ≡ fields xs ++ fields ys
+fields-append [] ys = refl
+fields-append (x ∷ xs) ys = ap (λ (t : List ℕ). field x ++ t) (fields-append xs ys) ∙ sym (append_assoc (field x) (fields xs) (fields ys))
 
-pub fields-more : (f : ℕ → ℕ) (n : ℕ) → fields (tabulate (n + 1) f) ≡ fields (tabulate n f) ++ field (f n)
-fields-more f n = rw add-one (fields_from f 0 n ∙ ap (λ (k : ℕ). fields (tabulate n f) ++ field (f k)) (zero-add n))
+pub fields-more : (xs : List ℕ) (i : ℕ) → i < length xs → fields (take (i + 1) xs) ≡ fields (take i xs) ++ field (at xs i)
+fields-more xs i h =
+    ap (λ (n : ℕ). fields (take n xs)) (add-one i)
+    ∙ ap fields (take-suc xs i 0 h)
+    ∙ fields-append (take i xs) (at xs i ∷ [])
+    ∙ ap (λ (t : List ℕ). fields (take i xs) ++ t) (append-nil (field (at xs i)))
+
+-- a literal's grades where they stand
+module _ (bytes : List ℕ) (n : ℕ) (long : length bytes ≡ 16) (h : n ≤ 8) where
+  pub literal_length : length (take (8 + n - 8) (drop 8 bytes)) ≡ n
+  literal_length = length-take (8 + n - 8) (drop 8 bytes) ∙ omega (arith, length-drop 8 bytes)
+
+  pub literal_grades : take (8 + n - 8) (drop 8 bytes) ≡ tabulate n (grade_bytes bytes)
+  literal_grades =
+      sym
+      (subst (λ (k : ℕ). tabulate k (grade_bytes bytes) ≡ take (8 + n - 8) (drop 8 bytes)) literal_length
+      (tabulate_self (grade_bytes bytes) (take (8 + n - 8) (drop 8 bytes))
+      (λ v l. sym (get_or-take (8 + n - 8) (drop 8 bytes) v 0 (omega (arith, literal_length)) ∙ get_or-drop 8 bytes v 0))))
 
 -- one line more
 lines_from_lem : (ks net : List ℕ) (k j n : ℕ) → lines_from k (records_from ks net j (suc n)) ≡ lines_from k (records_from ks net j n) ++ record_line (k + n) (record_of ks (record_at net (j + n)))

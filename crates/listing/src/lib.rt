@@ -10,30 +10,30 @@ ghost use Rattle.rules.specs.Listing.{decimal, field, fields, record_text, recor
 ghost use Rattle.shape.specs.Shapes.{places_of, is_sound};
 ghost use Rattle.listing.specs.Putting.{Put, grade_bytes, answer_line};
 
-use rules::{RECORD, Refusal, kinds};
+use rules::kinds::NetworkKind;
+use rules::{Gate, RECORD, Refusal};
 use shape::Shape;
 
 fn put(out: &mut [u8], start: usize, text: &[u8]) -> usize
     requires { start + length text.now ≤ length out.old }
     ensures { Put out.old start text.now (length text.now) result out.new }
 {
-    for j in 0..text.len() {
-        out[start + j] = text[j];
-    }
-    start + text.len()
+    let next = start + text.len();
+    out[start..next].copy_from_slice(text);
+    next
 }
 
-fn put_number(out: &mut [u8], start: usize, x: usize) -> usize
-    requires { (x < 65536) × (start + 5 ≤ length out.old) }
+fn put_number(out: &mut [u8], start: usize, x: u16) -> usize
+    requires { start + 5 ≤ length out.old }
     ensures { Put out.old start (decimal x) 5 result out.new }
 {
     let mut digits = [0u8; 20];
-    let n = io::decimal(x as u64, &mut digits);
+    let n = io::decimal(u64::from(x), &mut digits);
     put(out, start, &digits[..n])
 }
 
-fn put_field(out: &mut [u8], start: usize, x: usize) -> usize
-    requires { (x < 65536) × (start + 6 ≤ length out.old) }
+fn put_field(out: &mut [u8], start: usize, x: u16) -> usize
+    requires { start + 6 ≤ length out.old }
     ensures { Put out.old start (field x) 6 result out.new }
 {
     let next = put(out, start, b" ");
@@ -41,11 +41,11 @@ fn put_field(out: &mut [u8], start: usize, x: usize) -> usize
 }
 
 // A number of two bytes, the low byte first.
-fn put_word(out: &mut [u8], start: usize, low: u8, high: u8) -> usize
+fn put_word(out: &mut [u8], start: usize, bytes: [u8; 2]) -> usize
     requires { start + 6 ≤ length out.old }
-    ensures { Put out.old start (field (low + 256 * high)) 6 result out.new }
+    ensures { Put out.old start (field (word bytes 0)) 6 result out.new }
 {
-    put_field(out, start, low as usize + 256 * (high as usize))
+    put_field(out, start, u16::from_le_bytes(bytes))
 }
 
 fn put_constant(out: &mut [u8], start: usize, grade: u8) -> usize
@@ -53,59 +53,65 @@ fn put_constant(out: &mut [u8], start: usize, grade: u8) -> usize
     ensures { Put out.old start (record_text (constant grade)) 8 result out.new }
 {
     let next = put(out, start, b" C");
-    put_field(out, next, grade as usize)
+    put_field(out, next, u16::from(grade))
 }
 
-fn put_grades(out: &mut [u8], start: usize, bytes: &[u8], values: usize) -> usize
-    requires { (length bytes.now ≡ 16) × (values ≤ 8) × (start + 6 * values ≤ length out.old) }
-    ensures { Put out.old start (fields (tabulate values (grade_bytes bytes.now))) (6 * values) result out.new }
+fn put_grades(out: &mut [u8], start: usize, grades: &[u8]) -> usize
+    requires { start + 6 * length grades.now ≤ length out.old }
+    ensures { Put out.old start (fields grades.now) (6 * length grades.now) result out.new }
 {
     let mut next = start;
-    for v in 0..values {
-        let after = put_field(out, next, bytes[8 + v] as usize);
-        next = after;
+    for &grade in grades {
+        next = put_field(out, next, u16::from(grade));
     }
     next
 }
 
-fn put_literal(out: &mut [u8], start: usize, bytes: &[u8], shape: Shape) -> usize
-    requires { (length bytes.now ≡ 16) × (is_sound shape ≡ true) × (start + 56 ≤ length out.old) }
+fn put_literal(out: &mut [u8], start: usize, bytes: &[u8; RECORD], shape: Shape) -> usize
+    requires { (is_sound shape ≡ true) × (start + 56 ≤ length out.old) }
     ensures { Put out.old start (record_text (literal (at bytes.now 1) (tabulate (card (places_of shape) (at bytes.now 1)) (grade_bytes bytes.now)))) 56 result out.new }
 {
-    let condition = bytes[1] as usize;
     let named = put(out, start, b" L");
-    let next = put_field(out, named, condition);
-    put_grades(out, next, bytes, shape.cardinality(condition))
+    let next = put_field(out, named, u16::from(bytes[1]));
+    let values = shape.cardinality(usize::from(bytes[1]));
+    put_grades(out, next, &bytes[8..8 + values])
 }
 
-fn put_gate(out: &mut [u8], start: usize, name: &[u8], bytes: &[u8]) -> usize
-    requires { (length name.now ≡ 4) × (length bytes.now ≡ 16) × (start + 16 ≤ length out.old) }
+fn put_gate(out: &mut [u8], start: usize, name: &[u8; 4], bytes: &[u8; RECORD]) -> usize
+    requires { start + 16 ≤ length out.old }
     ensures { Put out.old start (name.now ++ (field (word bytes.now 4) ++ field (word bytes.now 6))) 16 result out.new }
 {
     let named = put(out, start, name);
-    let next = put_word(out, named, bytes[4], bytes[5]);
-    put_word(out, next, bytes[6], bytes[7])
+    let next = put_word(out, named, [bytes[4], bytes[5]]);
+    put_word(out, next, [bytes[6], bytes[7]])
 }
 
 // What follows a record's number.
-fn put_text(out: &mut [u8], start: usize, bytes: &[u8], shape: Shape) -> usize
-    requires { (length bytes.now ≡ 16) × (is_sound shape ≡ true) × (start + 56 ≤ length out.old) }
+fn put_text(out: &mut [u8], start: usize, bytes: &[u8; RECORD], shape: Shape) -> usize
+    requires { (is_sound shape ≡ true) × (start + 56 ≤ length out.old) }
     ensures { Put out.old start (record_text (record_of (places_of shape) bytes.now)) 56 result out.new }
 {
-    match bytes[0] {
-        kinds::CONSTANT => put_constant(out, start, bytes[1]),
-        kinds::LITERAL => put_literal(out, start, bytes, shape),
-        kinds::MIN => put_gate(out, start, b" MIN", bytes),
-        _ => put_gate(out, start, b" MAX", bytes),
+    match NetworkKind::try_from(bytes[0]) {
+        Ok(NetworkKind::Constant) => put_constant(out, start, bytes[1]),
+        Ok(NetworkKind::Literal) => put_literal(out, start, bytes, shape),
+        Ok(NetworkKind::Gate(Gate::Min)) => put_gate(out, start, b" MIN", bytes),
+        // A byte that says no kind stands in no sound network.
+        Ok(NetworkKind::Gate(Gate::Max)) | Err(_) => put_gate(out, start, b" MAX", bytes),
     }
 }
 
 // The line of record number r, from its sixteen bytes: at most 62 bytes.
-pub fn put_record(out: &mut [u8], start: usize, r: usize, bytes: &[u8], shape: Shape) -> usize
-    requires { (r < 65536) × (length bytes.now ≡ 16) × (is_sound shape ≡ true) × (start + 62 ≤ length out.old) }
+pub fn put_record(
+    out: &mut [u8],
+    start: usize,
+    r: usize,
+    bytes: &[u8; RECORD],
+    shape: Shape,
+) -> usize
+    requires { (r < 65536) × (is_sound shape ≡ true) × (start + 62 ≤ length out.old) }
     ensures { Put out.old start (record_line r (record_of (places_of shape) bytes.now)) 62 result out.new }
 {
-    let numbered = put_number(out, start, r);
+    let numbered = put_number(out, start, r as u16);
     let next = put_text(out, numbered, bytes, shape);
     put(out, next, b"\n")
 }
@@ -116,18 +122,15 @@ fn put_records(out: &mut [u8], network: &[u8], count: usize, shape: Shape) -> us
     ensures { Put out.old 0 (lines_from 0 (records_from (places_of shape) network.now 0 count)) (62 * count) result out.new }
 {
     let mut next = 0;
-    for r in 0..count {
-        let from = RECORD * r;
-        let to = from + RECORD;
-        let after = put_record(out, next, r, &network[from..to], shape);
-        next = after;
+    for (r, bytes) in network.as_chunks::<RECORD>().0[..count].iter().enumerate() {
+        next = put_record(out, next, r, bytes, shape);
     }
     next
 }
 
 // A text of eight bytes, a number, and the line's end.
-fn put_answer(out: &mut [u8], start: usize, name: &[u8], x: usize) -> usize
-    requires { (length name.now ≡ 8) × (x < 65536) × (start + 14 ≤ length out.old) }
+fn put_answer(out: &mut [u8], start: usize, name: &[u8; 8], x: u16) -> usize
+    requires { start + 14 ≤ length out.old }
     ensures { Put out.old start (answer_line name.now x) 14 result out.new }
 {
     let named = put(out, start, name);
@@ -141,7 +144,7 @@ pub fn put_listing(out: &mut [u8], network: &[u8], count: usize, shape: Shape) -
     ensures { Put out.old 0 (listing (records_from (places_of shape) network.now 0 count)) (62 * count + 14) result out.new }
 {
     let next = put_records(out, network, count, shape);
-    put_answer(out, next, b"records ", count)
+    put_answer(out, next, b"records ", count as u16)
 }
 
 // A refusal's line.
@@ -149,5 +152,5 @@ pub fn put_refusal(out: &mut [u8], refusal: Refusal) -> usize
     requires { 14 ≤ length out.old }
     ensures { Put out.old 0 (refusal_line refusal) 14 result out.new }
 {
-    put_answer(out, 0, b"refused ", refusal.number() as usize)
+    put_answer(out, 0, b"refused ", refusal.number() as u16)
 }

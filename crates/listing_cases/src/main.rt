@@ -63,18 +63,22 @@ fn show_listing() {
 }
 
 fn show_refusals() {
-    show_refusal(Refusal::FileLength);
-    show_refusal(Refusal::RecordBytes);
-    show_refusal(Refusal::RecordOrder);
-    show_refusal(Refusal::ShapeRange);
-    show_refusal(Refusal::GradeLimits);
-    show_refusal(Refusal::CellValues);
-    show_refusal(Refusal::Sets);
-    show_refusal(Refusal::NoJoin);
-    show_refusal(Refusal::FirstBlock);
-    show_refusal(Refusal::ShortBuffer);
-    show_refusal(Refusal::Network);
-    show_refusal(Refusal::CellNumber);
+    for refusal in [
+        Refusal::FileLength,
+        Refusal::RecordBytes,
+        Refusal::RecordOrder,
+        Refusal::ShapeRange,
+        Refusal::GradeLimits,
+        Refusal::CellValues,
+        Refusal::Sets,
+        Refusal::NoJoin,
+        Refusal::FirstBlock,
+        Refusal::ShortBuffer,
+        Refusal::Network,
+        Refusal::CellNumber,
+    ] {
+        show_refusal(refusal);
+    }
 }
 
 fn main() {

@@ -14,9 +14,6 @@ use Rattle.mask_making.specs.Marking.{Holds, Kept}
 pub holds_same : {w : List ℕ} {j b : ℕ} (w' : List ℕ) → Holds w j b → length w' ≡ length w → at w' j ≡ at w j → Holds w' j b
 holds_same w' h e q = let p = h.place in let l = h.least in record { place = omega arith; least = omega arith }
 
-pub holds-less : {w : List ℕ} {j b r : ℕ} → Holds w j b → r ≤ b → Holds w j r
-holds-less h le = let l = h.least in record { place = h.place; least = omega arith }
-
 -- the limits
 pub kept_self : (w : List ℕ) (n : ℕ) → Kept w n w
 kept_self w n = record { len = refl; limits = λ j h. refl }

@@ -1,37 +1,20 @@
 -- A condition's bit taken from the masks of both gates, by its extremes.
-use Prim.Native.Nat.{ℕ, ◌+◌, ◌-◌, ◌*◌, ◌≤◌, ◌<◌}
+use Prim.Native.Nat.{ℕ, ◌+◌, ◌*◌, ◌<◌}
 use mathlib.Core.Path.{◌≡◌, sym, ◌∙◌, ap, ap₂}
 use mathlib.Core.Bool.{Bool}
 use mathlib.Core.List.{List}
-use mathlib.Core.Logic.{inl, inr}
 use native.Mathlib.Omega.{arith}
 use lib.Dec.{ltb}
-use lib.ListN.{length}
-use Rattle.rules.specs.Bytes.{pick, at, tabulate}
+use Rattle.rules.specs.Bytes.{at, tabulate}
 use Rattle.rules.specs.Cell.{singleton, least_over, greatest_over}
 use Rattle.laws.proofs.TableLaws.{at-tabulate}
 use Rattle.tables.specs.Part.{part, Laid, Two}
 use Rattle.tables.proofs.LendLaws.{lent, back, laid_alone}
-use Rattle.tables.proofs.PartLaws.{part_at, part_length, laid_as, laid_then, laid-part, Filled, read_part}
+use Rattle.tables.proofs.PartLaws.{part_at, part_length, laid_as, laid_then, laid-part}
 use Rattle.masks.specs.Masks.{above_least, below_greatest}
 use Rattle.mask_making.specs.Making.{Space}
-use Rattle.mask_making.specs.Marking.{less, marked, AllHave, HaveBit, Marked}
-use Rattle.mask_making.proofs.KeptLaws.{holds_same, kept-part}
-
--- the loop of `mark` is at x
-module _ {w : List ℕ} {to n x : ℕ} {f : ℕ → ℕ} {w' : List ℕ} (l : Filled w to f x w') (h : x < n) where
-  stays : at w' (to + x) ≡ at w (to + x)
-  stays = l.after (to + x) (omega arith)
-
-  read : {from : ℕ} → Two w from to n → at w' (from + x) ≡ at w (from + x)
-  read {from} p = read_part p l (omega arith) x h ∙ part_at w from n x h
-
-  pub mark_fits : {b r : ℕ} → AllHave w to n b → r ≤ b → r ≤ at w' (to + x)
-  mark_fits p e = omega (arith, stays, (p.mask x h).least)
-
-  pub mark_next : {low high : ℕ} (b r : ℕ) → Two w low to n → Two w high to n → r ≡ pick (ltb (at w' (high + x)) (at w' (low + x))) 0 b
-      → at w' (to + x) - r ≡ marked w low high to b x
-  mark_next b r p q e = ap₂ (λ (s k : ℕ). s - k) stays (e ∙ ap₂ (λ (y z : ℕ). pick (ltb y z) 0 b) (read q) (read p))
+use Rattle.mask_making.specs.Marking.{less, marked, Marked}
+use Rattle.mask_making.proofs.KeptLaws.{kept-part}
 
 -- a copy, replaced by what is made of it
 pub copied : (f : List ℕ → List ℕ) {w : List ℕ} {from to n : ℕ} {w' v : List ℕ} → Two w from to n → Laid w to (part w from n) n w'
@@ -40,29 +23,6 @@ copied f {w} {from} {to} {n} {w'} p l m =
     let d = p.dst in
     let e = l.len in
     laid_as (ap f (laid-part l d (part_length w from n p.src))) (laid_then l (laid_alone w' to n (omega arith) f m))
-
--- of parts of n bytes, one that is written, and another before it or behind it
-module _ {w : List ℕ} {n : ℕ} (room : 5 * n ≤ length w) where
-  pub part-before : (a b : ℕ) → a + n ≤ b → b + n ≤ 5 * n → Two w a b n
-  part-before a b h g = record { src = omega arith; dst = omega arith; apart = inl (omega arith) }
-
-  pub part_behind : (a b : ℕ) → b + n ≤ a → a + n ≤ 5 * n → Two w a b n
-  part_behind a b h g = record { src = omega arith; dst = omega arith; apart = inr (omega arith) }
-
--- the masks for max while extremes are laid at the fifth part, and those for min after that
-module _ {w : List ℕ} {n b : ℕ} {t v : List ℕ} (h : HaveBit w n b 0) (l : Laid w (4 * n) t n v) where
-  pub first_have : AllHave v (2 * n) n b
-  first_have =
-      record { mask = λ x lt. holds_same v (h.cell x (omega arith) lt).first l.len (l.before (2 * n + x) (omega arith)) }
-
-  pub second_have : {f v' g : List ℕ} (w' : List ℕ) → Laid v (2 * n) f n v' → Laid v' (4 * n) g n w' → AllHave w' (3 * n) n b
-  second_have w' m k =
-      record {
-        mask = λ x lt.
-            let j = 3 * n + x in
-            holds_same w' (h.cell x (omega arith) lt).second (k.len ∙ m.len ∙ l.len)
-            (k.before j (omega arith) ∙ m.after j (omega arith) ∙ l.before j (omega arith));
-      }
 
 module _ {w ks : List ℕ} {n : ℕ} (s : Space w ks n) where
   -- a condition marked for max, then for min: before each, its extremes are laid at the fifth part

@@ -1,5 +1,5 @@
 -- A condition of two values: its lines, marked pair by pair, row by row and block by block.
-use Prim.Native.Nat.{ℕ, ◌+◌, ◌-◌, ◌*◌, ◌≤◌, ◌<◌}
+use Prim.Native.Nat.{ℕ, ◌+◌, ◌*◌, ◌≤◌, ◌<◌}
 use mathlib.Core.Path.{◌≡◌, refl, ◌∙◌, ap, ap₂}
 use mathlib.Core.Bool.{Bool}
 use mathlib.Core.List.{List}
@@ -9,10 +9,10 @@ use native.Mathlib.Numerals.{add-one}
 use native.Mathlib.Omega.{arith}
 use borrow.Author.Count.{below_more}
 use lib.Dec.{ltb}
-use Rattle.rules.specs.Bytes.{pick, at}
+use Rattle.rules.specs.Bytes.{at}
 use Rattle.tables.proofs.LineLaws.{line-end}
-use Rattle.mask_making.specs.Marking.{less, Taken, HasBit, HaveBit, Kept, Same, CellMarked, LineMarked, OnlyLine, RowsMarked, BlocksMarked}
-use Rattle.mask_making.proofs.KeptLaws.{holds_same, kept_self, kept_then}
+use Rattle.mask_making.specs.Marking.{less, HasBit, Kept, Same, CellMarked, LineMarked, OnlyLine, RowsMarked, BlocksMarked}
+use Rattle.mask_making.proofs.KeptLaws.{holds_same, kept_then}
 
 -- a cell whose masks stay
 same_self : (w : List ℕ) (n x : ℕ) → Same w n x w
@@ -57,59 +57,7 @@ module _ {w : List ℕ} {n b x y : ℕ} {w' w'' : List ℕ} where
       test : {u v : ℕ} → u < n → v < n → ltb (at w' (n + u)) (at w' v) ≡ ltb (at w (n + u)) (at w v)
       test {u} {v} hu hv = ap₂ ltb (k.limits (n + u) (omega arith)) (k.limits v (omega arith))
 
--- the four bytes of a pair, one after the other
-pub line_taken : {w : List ℕ} {n b x y up down : ℕ} {v₁ v₂ v₃ w' : List ℕ} → x < y → y < n
-    → up ≡ pick (ltb (at w (n + y)) (at w x)) 0 b → down ≡ pick (ltb (at w (n + x)) (at w y)) 0 b
-    → Taken w (2 * n + x) up v₁ → Taken v₁ (2 * n + y) down v₂ → Taken v₂ (3 * n + x) down v₃ → Taken v₃ (3 * n + y) up w'
-    → OnlyLine w n b x y w'
-line_taken {w} {n} {b} {x} {y} {up} {down} {v₁} {v₂} {v₃} {w'} h g eu ed t₁ t₂ t₃ t₄ =
-    record {
-      kept = record {
-        len = t₄.len ∙ t₃.len ∙ t₂.len ∙ t₁.len;
-        limits = λ j l. far j (λ q. omega arith) (λ q. omega arith) (λ q. omega arith) (λ q. omega arith);
-      };
-      done = record {
-        one = record {
-          first =
-              late (2 * n + x) (λ q. omega arith) (λ q. omega arith)
-              ∙ t₂.other (2 * n + x) (λ q. omega arith)
-              ∙ t₁.here
-              ∙ ap (λ (k : ℕ). at w (2 * n + x) - k) eu;
-          second =
-              t₄.other (3 * n + x) (λ q. omega arith)
-              ∙ t₃.here
-              ∙ ap₂ (λ (s k : ℕ). s - k) (soon (3 * n + x) (λ q. omega arith) (λ q. omega arith)) ed;
-        };
-        two = record {
-          first =
-              late (2 * n + y) (λ q. omega arith) (λ q. omega arith)
-              ∙ t₂.here
-              ∙ ap₂ (λ (s k : ℕ). s - k) (t₁.other (2 * n + y) (λ q. omega arith)) ed;
-          second =
-              t₄.here
-              ∙ ap₂ (λ (s k : ℕ). s - k)
-              (t₃.other (3 * n + y) (λ q. omega arith) ∙ soon (3 * n + y) (λ q. omega arith) (λ q. omega arith)) eu;
-        };
-      };
-      left = λ z l nx ny. record {
-        first = far (2 * n + z) (λ q. nx (omega arith)) (λ q. ny (omega arith)) (λ q. omega arith) (λ q. omega arith);
-        second = far (3 * n + z) (λ q. omega arith) (λ q. omega arith) (λ q. nx (omega arith)) (λ q. ny (omega arith));
-      };
-    }
-  where
-    soon : (j : ℕ) → (j ≡ 2 * n + x → ⊥) → (j ≡ 2 * n + y → ⊥) → at v₂ j ≡ at w j
-    soon j a c = t₂.other j c ∙ t₁.other j a
-
-    late : (j : ℕ) → (j ≡ 3 * n + x → ⊥) → (j ≡ 3 * n + y → ⊥) → at w' j ≡ at v₂ j
-    late j a c = t₄.other j c ∙ t₃.other j a
-
-    far : (j : ℕ) → (j ≡ 2 * n + x → ⊥) → (j ≡ 2 * n + y → ⊥) → (j ≡ 3 * n + x → ⊥) → (j ≡ 3 * n + y → ⊥) → at w' j ≡ at w j
-    far j a c d e = late j d e ∙ soon j a c
-
 -- lines of a block
-pub rows_none : (w : List ℕ) (n b a step : ℕ) → RowsMarked w n b a step 0 w
-rows_none w n b a step = record { kept = kept_self w n; done = λ o h. absurd (omega arith); left = λ z h no. same_self w n z }
-
 module _ {w : List ℕ} {n b a step s : ℕ} {w' : List ℕ} (r : RowsMarked w n b a step s w') (h : s < step) (fits : a + step * 2 ≤ n) where
   -- the next line is not marked yet
   pub next-first : Same w n (a + s) w'
@@ -134,14 +82,7 @@ module _ {w : List ℕ} {n b a step s : ℕ} {w' : List ℕ} (r : RowsMarked w n
       }
 
 -- blocks of a table
-pub blocks_none : (w : List ℕ) (n b step : ℕ) → BlocksMarked w n b step 0 w
-blocks_none w n b step = record { kept = kept_self w n; done = λ k o h. absurd (omega arith); left = λ z h l. same_self w n z }
-
 module _ {w : List ℕ} {n b step k : ℕ} {w' : List ℕ} (m : BlocksMarked w n b step k w') (fits : step * 2 * k + step * 2 ≤ n) where
-  -- the masks of the cells from the next block on
-  pub next-bits : HaveBit w n b 0 → HaveBit w' n b (step * 2 * k)
-  next-bits h = record { cell = λ x le lt. same_bit m.kept (m.left x le lt) (h.cell x (omega arith) lt) }
-
   pub blocks_more : {w'' : List ℕ} → RowsMarked w' n b (step * 2 * k) step step w'' → BlocksMarked w n b step (k + 1) w''
   blocks_more {w''} r =
       record {

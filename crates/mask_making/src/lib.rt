@@ -22,13 +22,14 @@ fn bit_unless_above(grade: u8, limit: u8, bit: u8) -> u8
     if limit < grade { 0 } else { bit }
 }
 
-// Takes a bit from the masks at `to` of the cells whose grade at `low` is not above the one at `high`.
+// Takes a bit from the masks at `to` of the cells whose grade at `low` is not above the one at `high`. By index: the
+// grades lie before and behind the masks in one call and turned round in the other, so slices would need two cuts each.
 fn mark(w: &mut [u8], low: usize, high: usize, to: usize, n: usize, bit: u8)
     requires { Two w.old low to n × Two w.old high to n × AllHave w.old to n bit }
     ensures { Laid w.old to (tabulate n (marked w.old low high to bit)) n w.new }
 {
     for x in 0..n {
-        w[to + x] = w[to + x] - bit_unless_above(w[low + x], w[high + x], bit);
+        w[to + x] -= bit_unless_above(w[low + x], w[high + x], bit);
     }
 }
 
@@ -45,9 +46,8 @@ fn extreme_over(
     requires { (i < 8) × Shaped ks × (n ≡ cells ks) × Two w.old from to n }
     ensures { Laid w.old to (over (best greatest) ks (singleton i) (part w.old from n)) n w.new }
 {
-    let none = [0u8; 0];
     fill::copy(w, from, to, n);
-    extremes::over_one(&none, &mut w[to..to + n], greatest, ks, i, n, 0, 0);
+    extremes::over_one(&[], &mut w[to..to + n], greatest, ks, i, n, 0, 0);
 }
 
 // The masks of both gates for condition i, by its extremes at every cell.
@@ -66,7 +66,7 @@ fn take_bit(w: &mut [u8], j: usize, bit: u8)
     requires { Holds w.old j bit }
     ensures { Taken w.old j bit w.new }
 {
-    w[j] = w[j] - bit;
+    w[j] -= bit;
 }
 
 // The masks of both gates of the cells a and b, which are a line. Each cell's limits are in order, so only those of
@@ -83,7 +83,7 @@ fn mark_two(w: &mut [u8], a: usize, b: usize, n: usize, bit: u8)
     take_bit(w, 3 * n + b, up);
 }
 
-// The lines of a block of two rows at a.
+// The lines of a block of two rows at a. By index: a line has a cell in each row of two parts, and reads two others.
 fn mark_rows(w: &mut [u8], a: usize, step: usize, n: usize, bit: u8)
     requires { (a + step * 2 ≤ n) × HaveBit w.old n bit a }
     ensures { RowsMarked w.old n bit a step step w.new }
@@ -93,7 +93,7 @@ fn mark_rows(w: &mut [u8], a: usize, step: usize, n: usize, bit: u8)
     }
 }
 
-// The lines of all blocks of a condition of two values.
+// The lines of all blocks of a condition of two values. By index: a block lies at the same place in four parts.
 fn mark_blocks(w: &mut [u8], n: usize, step: usize, bit: u8)
     requires { Several (step * 2) n × HaveBit w.old n bit 0 }
     ensures { BlocksMarked w.old n bit step (n / (step * 2)) w.new }
@@ -120,9 +120,9 @@ fn mark_condition(
 {
     if values == 2 {
         mark_blocks(w, n, step, bit);
-        return;
+    } else {
+        mark_lines(w, ks, i, n, bit);
     }
-    mark_lines(w, ks, i, n, bit);
 }
 
 // The masks of both gates, for the limits of n cells over the places ks at the front of the buffer. Every bit is there
@@ -134,11 +134,11 @@ pub fn make(w: &mut [u8], ks: [u8; PLACES], n: usize)
 {
     fill::fill(w, 255, 2 * n, 2 * n);
     let mut step: usize = 1;
-    for i in 0..PLACES {
-        let card = ks[i] as usize;
-        if 1 < card {
-            mark_condition(w, ks, i, n, step, card, sets::singleton(i));
+    for (i, card) in ks.iter().enumerate() {
+        let values = *card as usize;
+        if 1 < values {
+            mark_condition(w, ks, i, n, step, values, sets::singleton(i));
         }
-        step = step * card;
+        step *= values;
     }
 }

@@ -2,6 +2,7 @@
 pub mod MaskLaws
 pub mod ExchangeLaws
 pub mod ScanLaws
+pub mod AddLaws
 pub mod UnionLaws
 pub mod SearchLaws
 pub mod SplitLaws

@@ -7,6 +7,7 @@ use mathlib.Core.Logic.{⊎_elim}
 use native.Mathlib.Nat.{eq-or-lt_of_le}
 use native.Mathlib.Omega.{arith}
 use lib.Dec.{T}
+use Rattle.std.specs.Prelude.{Some, None}
 use Rattle.rules.specs.Cell.{cells, present, has, singleton}
 use Rattle.rules.specs.Bytes.{numbers_from}
 use Rattle.rules.specs.Limits.{Limits}
@@ -17,38 +18,26 @@ use Rattle.laws.proofs.LoopLaws.{first-none, first-at}
 use Rattle.laws.proofs.TestLaws.{passes}
 use Rattle.masks.specs.Masks.{Masked, none_both, Union}
 use Rattle.masks.specs.Searching.{Searched}
-use Rattle.masks.specs.declared.Pair.{Pair}
-use Rattle.masks.specs.declared.Pair.TheVariants.{Nothing, Found}
 use Rattle.masks.proofs.MaskLaws.{pair_joins}
 use Rattle.masks.proofs.UnionLaws.{none_with}
 
 module _ (pair : ℕ → ℕ → Bool) where
   -- the outer loop is at i: no pair whose first condition is below i has passed
-  pub record Outer (found : Pair) (i : ℕ) : Type 0 where
-    pub none : found ≡ Nothing
+  pub record Outer (i : ℕ) : Type 0 where
     pub within : i ≤ 8
     pub below : (h k : ℕ) → h < i → h < k → k < 8 → T (pair h k) → ⊥
 
   -- the inner loop is at j: no pair of i and a condition below j has passed
-  pub record Inner (found : Pair) (i j : ℕ) : Type 0 where
-    pub none : found ≡ Nothing
+  pub record Inner (i j : ℕ) : Type 0 where
     pub above : i < j
     pub within : j ≤ 8
     pub here : (k : ℕ) → i < k → k < j → T (pair i k) → ⊥
 
 module _ {pair : ℕ → ℕ → Bool} where
-  -- where the loops start, and a pair that has not passed
-  pub outer_start : Outer pair Nothing 0
-  outer_start = record { none = refl; within = omega arith; below = λ h k l. absurd (omega arith) }
-
-  pub inner_start : {found : Pair} {i : ℕ} → Outer pair found i → i < 8 → Inner pair found i (i + 1)
-  inner_start o h = record { none = o.none; above = omega arith; within = omega arith; here = λ k l g. absurd (omega arith) }
-
-  pub inner_more : {found : Pair} {i j : ℕ} → Inner pair found i j → j < 8 → pair i j ≡ false → Inner pair found i (j + 1)
-  inner_more {found} {i} {j} n h e =
+  pub inner_more : {i j : ℕ} → Inner pair i j → j < 8 → pair i j ≡ false → Inner pair i (j + 1)
+  inner_more {i} {j} n h e =
       let a = n.above in
       record {
-        none = n.none;
         above = omega arith;
         within = omega arith;
         here = λ k l g y.
@@ -57,11 +46,9 @@ module _ {pair : ℕ → ℕ → Bool} where
       }
 
   -- no pair of i passes
-  outer_next : {found r : Pair} {i : ℕ} → Outer pair found i → r ≡ Nothing → i < 8
-      → ((k : ℕ) → i < k → k < 8 → T (pair i k) → ⊥) → Outer pair r (i + 1)
-  outer_next {i = i} o e lt refuse =
+  outer_next : {i : ℕ} → Outer pair i → i < 8 → ((k : ℕ) → i < k → k < 8 → T (pair i k) → ⊥) → Outer pair (i + 1)
+  outer_next {i = i} o lt refuse =
       record {
-        none = e;
         within = omega arith;
         below = λ a k l g u y.
             ⊎_elim (λ q. refuse k (omega arith) u (subst (λ (m : ℕ). T (pair m k)) q y)) (λ lo. o.below a k lo g u y)
@@ -69,22 +56,20 @@ module _ {pair : ℕ → ℕ → Bool} where
       }
 
   -- the inner loop is through
-  pub outer_more : {found found' r : Pair} {i j : ℕ}
-      → Outer pair found i → Inner pair found' i j → 8 ≤ j → i < 8 → r ≡ found' → Outer pair r (i + 1)
-  outer_more o n h lt e = outer_next o (e ∙ n.none) lt (λ k l u. n.here k l (omega arith))
+  pub outer_more : {i j : ℕ} → Outer pair i → Inner pair i j → 8 ≤ j → i < 8 → Outer pair (i + 1)
+  outer_more o n h lt = outer_next o lt (λ k l u. n.here k l (omega arith))
 
   -- a condition that is not there is in no pair
-  pub outer_skip : {found r : Pair} {i : ℕ} → Outer pair found i → i < 8 → ((k : ℕ) → pair i k ≡ false) → r ≡ found
-      → Outer pair r (i + 1)
-  outer_skip o lt refuse e = outer_next o (e ∙ o.none) lt (λ k l u y. subst T (refuse k) y)
+  pub outer_skip : {i : ℕ} → Outer pair i → i < 8 → ((k : ℕ) → pair i k ≡ false) → Outer pair (i + 1)
+  outer_skip o lt refuse = outer_next o lt (λ k l u y. subst T (refuse k) y)
 
   -- what the search ends with, where the test is that of conditions and of joins
   module _ (is : ℕ → Bool) (joins : ℕ → ℕ → Bool)
       (same : (i j : ℕ) → (is i && (is j && joins (singleton i) (singleton j))) ≡ pair i j) where
-    first_no : {found : Pair} {i : ℕ} → Outer pair found i → 8 ≤ i → none ≡ first_pair is joins (numbers_from 0 8)
+    first_no : {i : ℕ} → Outer pair i → 8 ≤ i → none ≡ first_pair is joins (numbers_from 0 8)
     first_no o h = sym (first-none is joins 0 8 (λ a k le g u y. o.below a k (omega arith) g (omega arith) (subst T (same a k) y)))
 
-    first_pair_lem : {found found' : Pair} {i j : ℕ} → Outer pair found i → Inner pair found' i j → j < 8 → pair i j ≡ true
+    first_pair_lem : {i j : ℕ} → Outer pair i → Inner pair i j → j < 8 → pair i j ≡ true
         → sets (singleton i) (singleton j) ≡ first_pair is joins (numbers_from 0 8)
     first_pair_lem {i = i} {j = j} o n h e =
         sym
@@ -126,16 +111,15 @@ module _ {ks t : List ℕ} where
       go true true e f = pair_joins op ks m l t i j b (passes e) (passes f)
 
   -- the search has passed every pair, or found one
-  pub found_none : {found : Pair} {i : ℕ} → Outer (admitted ks t) found i → 8 ≤ i → Searched ks t found
+  pub found_none : {i : ℕ} → Outer (admitted ks t) i → 8 ≤ i → Searched ks t None
   found_none o h =
-      subst (Searched ks t) (sym o.none)
-      (record {
+      record {
         first = λ op m l b.
             record { is = first_no (present ks) (λ s t. join_exists op ks m s t l) (joins-admitted op m l b) o h; rising = tt };
-      })
+      }
 
-  pub found_pair : {found found' : Pair} {i j : ℕ} → Outer (admitted ks t) found i → Inner (admitted ks t) found' i j → j < 8
-      → admitted ks t i j ≡ true → Searched ks t (Found i j)
+  pub found_pair : {i j : ℕ} → Outer (admitted ks t) i → Inner (admitted ks t) i j → j < 8
+      → admitted ks t i j ≡ true → Searched ks t (Some (i, j))
   found_pair o n h e =
       record {
         first = λ op m l b.

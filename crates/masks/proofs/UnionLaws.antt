@@ -1,46 +1,57 @@
 -- What masks have together: the loops that unite them, and what that says of single masks.
-use Prim.Native.Nat.{ℕ, suc, ◌+◌}
-use mathlib.Core.Path.{◌≡◌, refl, sym, ◌∙◌, ap, ap₂, subst}
-use mathlib.Core.Bool.{Bool, true, false, not, ◌&&◌, ◌||◌, not-not}
-use mathlib.Core.List.{List}
-use native.Mathlib.Numerals.{add-one}
+use Prim.Native.Nat.{ℕ, ◌+◌, ◌≤◌}
+use mathlib.Core.Path.{◌≡◌, refl, sym, ◌∙◌, ap, subst}
+use mathlib.Core.Bool.{cond, Bool, true, false, not, ◌&&◌, ◌||◌, not-not}
+use mathlib.Core.List.{List, [], ◌∷◌}
 use lib.Bits.{bit_or}
 use lib.Dec.{T}
-use Rattle.rules.specs.Bytes.{pick, at}
+use lib.ListN.{length}
+use Rattle.std.specs.List.{filter, fold, list_any, slice_range}
 use Rattle.rules.specs.Cell.{has}
 use Rattle.laws.proofs.SetLaws.{has-none, has-or}
 use Rattle.laws.proofs.TestLaws.{passed, failed}
+use Rattle.tables.specs.Part.{part}
+use Rattle.masks.proofs.ScanLaws.{any_part}
 use Rattle.masks.specs.Masks.{none_of, none_has, Union, every}
 
--- of no masks
-pub union_none : (t : List ℕ) (q : ℕ → Bool) → Union 0 t q 0
-unfolding none_of
-union_none t q = record { has-is = λ j. failed (has 0 j) (has-none j) }
-
--- one mask y more, that passes the test or not
-pub union_more : {x : ℕ} {t : List ℕ} {q : ℕ → Bool} {s y r : ℕ}
-    → Union x t q s → at t x ≡ y → r ≡ pick (q y) y 0 → Union (x + 1) t q (bit_or s r)
-unfolding none_of
-union_more {x} {t} {q} {s} {y} {r} u f e = rw (add-one x) (record { has-is = more })
+-- a fold over the masks of a slice that pass the test
+pub union_part : (w : List ℕ) (a n : ℕ) (q : ℕ → Bool) → a + n ≤ length w → Union n (part w a n) q (fold bit_or 0 (filter q (slice_range w a (a + n))))
+union_part w a n q h =
+    record {
+      has-is = λ j.
+          let t = slice_range w a (a + n) in
+          onto t 0 j
+          ∙ ap (λ (b : Bool). b || list_any (λ x. q x && has x j) t) (failed (has 0 j) (has-none j))
+          ∙ any_part w a n (λ x. q x && has x j) h;
+    }
   where
-    taken : (b : Bool) (z j : ℕ) → has (pick b z 0) j ≡ b && has z j
-    taken true z j = refl
-    taken false z j = failed (has 0 j) (has-none j)
+    regroup : (a b c : Bool) → (a || b) || c ≡ a || (b || c)
+    regroup true b c = refl
+    regroup false b c = refl
 
-    either : (b c : Bool) → not b || c ≡ not (b && not c)
-    either true true = refl
-    either true false = refl
-    either false c = refl
+    -- begun with a set s
+    onto : (l : List ℕ) (s j : ℕ) → has (fold bit_or s (filter q l)) j ≡ has s j || list_any (λ x. q x && has x j) l
+    onto [] s j = or-false (has s j)
+      where
+        or-false : (b : Bool) → b ≡ b || false
+        or-false true = refl
+        or-false false = refl
+    onto (x ∷ l) s j = go (q x) (onto l)
+      where
+        go : (b : Bool) → ((r k : ℕ) → has (fold bit_or r (filter q l)) k ≡ has r k || list_any (λ x. q x && has x k) l)
+            → has (fold bit_or s (cond b (x ∷ filter q l) (filter q l))) j ≡ has s j || ((b && has x j) || list_any (λ x. q x && has x j) l)
+        go true f =
+            f (bit_or s x) j ∙ ap (λ (b : Bool). b || list_any (λ x. q x && has x j) l) (has-or s x j)
+            ∙ regroup (has s j) (has x j) (list_any (λ x. q x && has x j) l)
+        go false f = f s j
 
-    more : (j : ℕ) → has (bit_or s r) j ≡ not (none_of (suc x) t (λ z. q z && has z j))
-    more j =
-        has-or s r j
-        ∙ ap₂ ◌||◌ (u.has-is j) (ap (λ (z : ℕ). has z j) e ∙ taken (q y) y j ∙ ap (λ (z : ℕ). q z && has z j) (sym f))
-        ∙ either (none_of x t (λ z. q z && has z j)) (q (at t x) && has (at t x) j)
-
--- a loop's end
-pub union_all : {n x : ℕ} {t : List ℕ} {q : ℕ → Bool} {s : ℕ} → x ≡ n → Union x t q s → Union n t q s
-union_all {t = t} {q = q} {s = s} e u = subst (λ (k : ℕ). Union k t q s) e u
+-- over all of them
+pub union_whole : (w : List ℕ) (a n : ℕ) → a + n ≤ length w → Union n (part w a n) every (fold bit_or 0 (slice_range w a (a + n)))
+union_whole w a n h = subst (λ (t : List ℕ). Union n (part w a n) every (fold bit_or 0 t)) (kept (slice_range w a (a + n))) (union_part w a n every h)
+  where
+    kept : (t : List ℕ) → filter every t ≡ t
+    kept [] = refl
+    kept (x ∷ t) = ap (λ (u : List ℕ). x ∷ u) (kept t)
 
 -- none of the masks that pass the test has a condition exactly where the union does not
 pub none_with : {n : ℕ} {t : List ℕ} {q : ℕ → Bool} {s : ℕ} → Union n t q s

@@ -15,28 +15,20 @@ ghost use Rattle.masks.specs.Searching.{Searched};
 use places::sets;
 use rules::PLACES;
 
-// The first two conditions that join.
-#[derive(Clone, Copy)]
-pub enum Pair {
-    Nothing,
-    Found(usize, usize),
-}
-
 // The first pair i < j that joins, i rising, then j: no mask has both.
-pub fn first_pair(w: &[u8], ks: [u8; PLACES], a: usize, n: usize) -> Pair
+pub fn first_pair(w: &[u8], ks: [u8; PLACES], a: usize, n: usize) -> Option<(usize, usize)>
     requires { (n ≡ cells ks) × (a + n ≤ length w.now) }
     ensures { Searched ks (part w.now a n) result }
 {
-    let mut found = Pair::Nothing;
-    'search: for i in 0..PLACES {
-        if 1 < ks[i] {
+    let mut found = None;
+    'search: for (i, card) in ks.iter().enumerate() {
+        if *card > 1 {
             let beside = tests::seen_beside(w, a, n, i);
+            // By number: it is the numbers that are answered.
             for j in i + 1..PLACES {
-                if 1 < ks[j] {
-                    if !places::has_member(beside, j) {
-                        found = Pair::Found(i, j);
-                        break 'search;
-                    }
+                if ks[j] > 1 && !places::has_member(beside, j) {
+                    found = Some((i, j));
+                    break 'search;
                 }
             }
         }
@@ -51,7 +43,7 @@ pub fn add(w: &mut [u8], a: usize, n: usize, i: usize)
     ensures { Laid w.old a (tabulate n (λ x. bit_or (at (part w.old a n) x) (singleton i))) n w.new }
 {
     let bit = sets::singleton(i);
-    for x in 0..n {
-        w[a + x] = w[a + x] | bit;
+    for mask in &mut w[a..a + n] {
+        *mask |= bit;
     }
 }

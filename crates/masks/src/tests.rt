@@ -1,6 +1,5 @@
 // What the n masks at a say. None of these writes.
 ghost use Rattle.std.specs.Prelude.{◌+◌, ◌≤◌, ◌<◌, ◌≡◌, length};
-ghost use Rattle.rules.specs.Bytes.{pick};
 ghost use Rattle.rules.specs.Cell.{has};
 ghost use Rattle.tables.specs.Part.{part};
 ghost use Rattle.masks.specs.Masks.{is_full_from, some_full, Union, every};
@@ -18,12 +17,7 @@ pub fn some_full(w: &[u8], a: usize, n: usize, k: usize) -> bool
     requires { (k < 8) × (a + n ≤ length w.now) }
     ensures { result ≡ some_full n (part w.now a n) k }
 {
-    for x in 0..n {
-        if full(w[a + x], k) {
-            return true;
-        }
-    }
-    false
+    w[a..a + n].iter().any(|mask| full(*mask, k))
 }
 
 // The conditions that some mask has: the others drop.
@@ -31,18 +25,7 @@ pub fn seen(w: &[u8], a: usize, n: usize) -> u8
     requires { a + n ≤ length w.now }
     ensures { Union n (part w.now a n) every result }
 {
-    let mut found: u8 = 0;
-    for x in 0..n {
-        found = found | w[a + x];
-    }
-    found
-}
-
-fn if_member(mask: u8, i: usize) -> u8
-    requires { i < 8 }
-    ensures { result ≡ pick (has mask i) mask 0 }
-{
-    if places::has_member(mask, i) { mask } else { 0 }
+    w[a..a + n].iter().fold(0, |found, mask| found | mask)
 }
 
 // The conditions that some mask has beside condition i: the others join it.
@@ -50,9 +33,8 @@ pub fn seen_beside(w: &[u8], a: usize, n: usize, i: usize) -> u8
     requires { (i < 8) × (a + n ≤ length w.now) }
     ensures { Union n (part w.now a n) (λ s. has s i) result }
 {
-    let mut found: u8 = 0;
-    for x in 0..n {
-        found = found | if_member(w[a + x], i);
-    }
-    found
+    w[a..a + n]
+        .iter()
+        .filter(|mask| places::has_member(**mask, i))
+        .fold(0, |found, mask| found | mask)
 }

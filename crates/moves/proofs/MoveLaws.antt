@@ -1,36 +1,34 @@
 -- Tables moved to other places, run by run.
-use Prim.Native.Nat.{ℕ, ◌+◌, ◌-◌, ◌*◌, ◌/◌, ◌≤◌, ◌<◌}
-use mathlib.Core.Path.{◌≡◌, refl, sym, ◌∙◌, ap, subst}
-use mathlib.Core.Bool.{Bool, true, false, false≢true}
+use Prim.Native.Nat.{ℕ, ◌+◌, ◌-◌, ◌*◌, ◌/◌, ◌%◌, ◌≤◌, ◌<◌}
+use mathlib.Core.Path.{◌≡◌, refl, sym, ◌∙◌, ap, ap₂}
+use mathlib.Core.Bool.{Bool, true, false, not, false≢true}
 use mathlib.Core.List.{List, ◌++◌}
 use mathlib.Core.Logic.{inl, inr, ⊎_elim}
 use native.Mathlib.Omega.{arith}
 use native.Mathlib.Nat.{mul-zero, mul-suc, mul-div_cancel_left}
 use native.Mathlib.Numerals.{add-one}
+use borrow.Author.Tests.{ne_eqb}
+use lib.Dec.{eqb}
 use lib.ListN.{length, get_or, drop, get_or-append}
 use lib.Seq.{get_or-append-add}
 use Rattle.rules.specs.Bytes.{pick, at, tabulate}
-use Rattle.rules.specs.Cell.{cells, value, remap, moved}
+use Rattle.rules.specs.Cell.{cells, step, value, remap, moved}
 use Rattle.laws.proofs.CellLaws.{cell_lt}
 use Rattle.laws.proofs.LineLaws.{step_pos}
 use Rattle.laws.proofs.LoopLaws.{step_start, step_le, step-more}
-use Rattle.laws.proofs.MoveLaws.{remap-first, reads_none, same_more, other-more}
+use Rattle.laws.proofs.MoveLaws.{remap-first, reads_none, same_more, other-more, Turns, turns_take, turns_stop, turns_more, turns_skip}
 use Rattle.laws.proofs.NumberLaws.{card-positive}
 use Rattle.laws.proofs.TableLaws.{at-tabulate, length-tabulate_from}
-use Rattle.laws.proofs.TestLaws.{by_order}
+use Rattle.laws.proofs.TestLaws.{by_order, by_equal}
 use Rattle.moves.specs.declared.Run.{Run}
 use Rattle.tables.specs.Part.{part, Laid, Apart, Shaped}
-use Rattle.moves.specs.Move.{remap_from, Runs, together, room, Moving}
+use Rattle.moves.specs.Move.{remap_from, EndsRun, Runs, together, room, Moving}
 use Rattle.tables.proofs.PartLaws.{Filled, read_part, filled_laid}
 use Rattle.tables.proofs.LineLaws.{line-end}
 use Rattle.tables.proofs.OverLaws.{step-rest}
 
 abbrev pub run : ℕ → ℕ → ℕ → Run
 run places cells first = record { places = places; cells = cells; first = first }
-
--- a run of no place
-pub runs_none : (along : Bool) (a b : List ℕ) → Runs a b along (run 0 1 1)
-runs_none along a b = record { few = omega arith; cells_is = sym (step_start b); first-is = sym (step_start a); reads = reads_none along b a }
 
 module _ {a b : List ℕ} {along : Bool} {u : Run} (x : Runs a b along u) where
   pub runs_some : Shaped b → 0 < u.cells
@@ -42,28 +40,100 @@ module _ {a b : List ℕ} {along : Bool} {u : Run} (x : Runs a b along u) where
   pub runs_first-low : Shaped a → u.first ≤ 1024
   runs_first-low p = let few = p.few in omega (arith, x.first-is, step_le a u.places p.some)
 
--- one place more that is equal in both
-pub runs_same : {a b : List ℕ} {i s : ℕ} → Shaped b → i < 8 → i < length a → i < length b → get_or b i 0 ≡ get_or a i 0 → Runs a b true (run i s s)
-    → Runs a b true (run (i + 1) (s * get_or b i 0) (s * get_or b i 0))
-runs_same {a} {b} {i} {s} p h ha hb e x =
-    subst (λ (l : ℕ). Runs a b true (run (i + 1) (s * get_or b i 0) (s * l))) (sym e)
-    (record {
-      few = omega arith;
-      cells_is = step-more b i s hb x.cells_is;
-      first-is = step-more a i s ha x.first-is;
-      reads = same_more b a i s hb ha s (runs_some x p) refl e x.reads;
-    })
+-- a const parameter as a test
+abbrev pub flag : ℕ → Bool
+flag n = not (eqb n 0)
 
--- one that has no condition in b, or none in a
-pub runs_other : {a b : List ℕ} {i s t : ℕ} → Shaped a → Shaped b → i < 8 → i < length a → i < length b → (1 < get_or b i 0 → 1 < get_or a i 0 → ⊥) → Runs a b false (run i s t)
-    → Runs a b false (run (i + 1) (s * get_or b i 0) (t * get_or a i 0))
-runs_other {a} {b} {i} {s} {t} q p h ha hb n x =
+pub flag_on : (n : ℕ) → (n ≡ 0 → ⊥) → flag n ≡ true
+flag_on n h = ap not (ne_eqb n 0 h)
+
+pub flag_off : (n : ℕ) → n ≡ 0 → flag n ≡ false
+flag_off n e = ap flag e
+
+-- the run of the lowest n places
+pub record Growing (a b : List ℕ) (along : Bool) (n : ℕ) (u : Run) : Type 0 where
+  pub places_is : u.places ≡ n
+  pub run_is : Runs a b along u
+  pub even : along ≡ true → u.first ≡ u.cells
+
+-- of no place
+pub growing_none : (along : Bool) (a b : List ℕ) → Growing a b along 0 (run 0 1 1)
+growing_none along a b =
     record {
-      few = omega arith;
-      cells_is = step-more b i s hb x.cells_is;
-      first-is = step-more a i t ha x.first-is;
-      reads = other-more b a i t hb ha s (runs_some x p) n (card-positive a i ha q.some) x.reads;
+      places_is = refl;
+      run_is = record { few = omega arith; cells_is = sym (step_start b); first-is = sym (step_start a); reads = reads_none along b a };
+      even = λ _. refl;
     }
+
+-- of one place more
+module _ {a b : List ℕ} {n : ℕ} {u : Run} (q : Shaped a) (p : Shaped b) (h : n < 8) (ha : n < length a) (hb : n < length b) where
+  grown : (along : Bool) → Growing a b along n u → (along ≡ true → u.first * get_or a n 0 ≡ u.cells * get_or b n 0)
+      → ((r o : ℕ) → o < u.cells * get_or b n 0 → remap b a (o + u.cells * get_or b n 0 * r) ≡ pick along o 0 + u.first * get_or a n 0 * remap_from (n + 1) b a r)
+      → Growing a b along (n + 1) (run (u.places + 1) (u.cells * get_or b n 0) (u.first * get_or a n 0))
+  grown along x even reads =
+      let r = x.run_is in
+      let e = x.places_is in
+      let next : u.places + 1 ≡ n + 1 = omega arith in
+      record {
+        places_is = next;
+        run_is =
+            record {
+              few = omega arith;
+              cells_is = step-more b n u.cells hb (r.cells_is ∙ ap (step b) e) ∙ ap (step b) (sym next);
+              first-is = step-more a n u.first ha (r.first-is ∙ ap (step a) e) ∙ ap (step a) (sym next);
+              reads = λ r o lt. reads r o lt ∙ ap (λ (i : ℕ). pick along o 0 + u.first * get_or a n 0 * remap_from i b a r) (sym next);
+            };
+        even = even;
+      }
+
+  read : (along : Bool) → Growing a b along n u → (r o : ℕ) → o < u.cells → remap b a (o + u.cells * r) ≡ pick along o 0 + u.first * remap_from n b a r
+  read along x r o lt = x.run_is.reads r o lt ∙ ap (λ (i : ℕ). pick along o 0 + u.first * remap_from i b a r) x.places_is
+
+  pub growing_more : (along : Bool) → (EndsRun along (get_or b n 0) (get_or a n 0) → ⊥) → Growing a b along n u → Growing a b along (n + 1) (run (u.places + 1) (u.cells * get_or b n 0) (u.first * get_or a n 0))
+  growing_more true keep x =
+      by_equal (get_or b n 0) (get_or a n 0)
+      (λ e. grown true x (λ _. ap₂ (λ (x y : ℕ). x * y) (x.even refl) (sym e)) (same_more b a n u.first hb ha u.cells (runs_some x.run_is p) (x.even refl) e (read true x)))
+      (λ ne. absurd (keep ne))
+  growing_more false keep x =
+      grown false x (λ f. absurd (false≢true f))
+      (other-more b a n u.first hb ha u.cells (runs_some x.run_is p) (λ g h. keep (g, h)) (card-positive a n ha q.some) (read false x))
+
+-- place i has k values in b and l in a
+pub record Place (b a : List ℕ) (i k l : ℕ) : Type 0 where
+  pub in_b : i < length b
+  pub in_a : i < length a
+  pub k_is : k ≡ get_or b i 0
+  pub l_is : l ≡ get_or a i 0
+  pub k_pos : 0 < k
+  pub l_pos : 0 < l
+
+pub place : {a b : List ℕ} {i k l : ℕ} → Shaped a → Shaped b → i < length b → i < length a → k ≡ get_or b i 0 → l ≡ get_or a i 0 → Place b a i k l
+place {a} {b} {i} {k} {l} q p hb ha ek el =
+    record {
+      in_b = hb;
+      in_a = ha;
+      k_is = ek;
+      l_is = el;
+      k_pos = rw ek (card-positive b i hb p.some);
+      l_pos = rw el (card-positive a i ha q.some);
+    }
+
+-- the steps of `Turns` at it
+module _ {b a : List ℕ} {goal i rest at stp k l : ℕ} (x : Turns b a goal i rest at stp) (y : Place b a i k l) where
+  pos : 0 < get_or b i 0
+  pos = rw y.k_is at y.k_pos
+
+  pub turn_take : rest % k % l * stp ≤ at
+  turn_take = rw (y.k_is, y.l_is) (turns_take x y.in_b y.in_a pos)
+
+  pub turn_stop : rest % k + 1 < k → at - rest % k % l * stp + (rest % k + 1) % l * stp ≡ goal
+  turn_stop h = rw (y.k_is, y.l_is) (turns_stop x y.in_b y.in_a pos (rw y.k_is at h))
+
+  pub turn_more : k ≤ rest % k + 1 → Turns b a goal (i + 1) (rest / k) (at - rest % k % l * stp) (stp * l)
+  turn_more h = rw (y.k_is, y.l_is) (turns_more x y.in_b y.in_a pos (rw y.k_is at h))
+
+  pub turn_skip : k ≤ 1 → Turns b a goal (i + 1) rest at (stp * l)
+  turn_skip h = rw y.l_is (turns_skip x y.in_b y.in_a pos (rw y.k_is at h))
 
 -- run r of b begins at cell d of a
 abbrev pub Starts : List ℕ → List ℕ → Run → ℕ → ℕ → Type 0

@@ -1,5 +1,5 @@
 -- Tables moved to other places in runs: the cells that differ in the lowest places only.
-use Rattle.std.specs.Prelude.{ℕ, ◌+◌, ◌*◌, ◌≤◌, ◌<◌, ◌≡◌, Bool, true, false, List, ◌++◌, drop}
+use Rattle.std.specs.Prelude.{ℕ, ◌+◌, ◌*◌, ◌≤◌, ◌<◌, ◌≡◌, ◌≢◌, Bool, true, false, List, ◌++◌, drop}
 use Rattle.rules.specs.Bytes.{pick}
 use Rattle.rules.specs.Cell.{cells, step, remap}
 use Rattle.tables.specs.Part.{Apart, Shaped}
@@ -8,6 +8,11 @@ use Rattle.moves.specs.declared.Run.{Run}
 -- the cell map of the places from j on
 abbrev pub remap_from : ℕ → List ℕ → List ℕ → ℕ → ℕ
 remap_from j b a x = remap (drop j b) (drop j a) x
+
+-- a place with k values in b and l in a ends a run: where the two differ, or where both have a condition there
+abbrev pub EndsRun : Bool → ℕ → ℕ → Type 0
+EndsRun true k l = k ≢ l
+EndsRun false k l = (1 < k) × (1 < l)
 
 -- what cell o of run r of b is in a: cell o of a run there, or for every o the one cell where such a run begins
 pub record Runs (a b : List ℕ) (along : Bool) (run : Run) : Type 0 where

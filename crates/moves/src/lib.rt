@@ -1,12 +1,12 @@
 // Tables moved to other places, and the cells where a condition has one value.
 #![tactic(auto)]
 
-ghost use Rattle.std.specs.Prelude.{◌+◌, ◌*◌, ◌≤◌, ◌<◌, ◌≡◌, true, false, ◌++◌};
+ghost use Rattle.std.specs.Prelude.{◌+◌, ◌*◌, ◌≤◌, ◌<◌, ◌≡◌, ◌++◌, ◌↔◌, IsTrue};
 ghost use Rattle.rules.specs.Bytes.{pick, at, tabulate};
 ghost use Rattle.rules.specs.Cell.{cells, step, moved};
 ghost use Rattle.tables.specs.Part.{part, Laid, Apart, Shaped};
 ghost use Rattle.tables.specs.Line.{Spread};
-ghost use Rattle.moves.specs.Move.{remap_from, Runs, together, room, Moving};
+ghost use Rattle.moves.specs.Move.{remap_from, EndsRun, Runs, together, room, Moving};
 ghost use Rattle.moves.specs.Row.{in_row, Rows};
 
 use rules::PLACES;
@@ -21,89 +21,69 @@ struct Run {
     first: usize,
 }
 
-// The lowest places that are equal: the cells of a run lie beside each other in a too.
-fn same_run(a: [u8; PLACES], b: [u8; PLACES]) -> Run
-    requires { Shaped a × Shaped b }
-    ensures { Runs a b true result }
+// Whether a place with k values in b and l in a ends a run: with ALONG where the two differ, without where it has a
+// condition in both.
+fn ends_run<const ALONG: bool>(k: u8, l: u8) -> bool
+    ensures { IsTrue result ↔ EndsRun ALONG k l }
 {
-    let mut cells: usize = 1;
-    for i in 0..PLACES {
-        let k = b[i] as usize;
-        let l = a[i] as usize;
-        if k != l {
-            return Run {
-                places: i,
-                cells,
-                first: cells,
-            };
-        }
-        cells = cells * k;
-    }
-    Run {
-        places: PLACES,
-        cells,
-        first: cells,
-    }
+    if ALONG { k != l } else { 1 < k && 1 < l }
 }
 
-// The lowest places of which none has a condition in both: all cells of a run have the grade of one cell of a.
-fn other_run(a: [u8; PLACES], b: [u8; PLACES]) -> Run
+// The lowest places that make a run. With ALONG they are equal, and its cells lie beside each other in a too; without
+// none of them has a condition in both, and all its cells have the grade of one cell of a.
+fn run_of<const ALONG: bool>(a: [u8; PLACES], b: [u8; PLACES]) -> Run
     requires { Shaped a × Shaped b }
-    ensures { Runs a b false result }
+    ensures { Runs a b ALONG result }
 {
-    let mut cells: usize = 1;
-    let mut first: usize = 1;
-    for i in 0..PLACES {
-        let k = b[i] as usize;
-        let l = a[i] as usize;
-        if 1 < k && 1 < l {
-            return Run {
-                places: i,
-                cells,
-                first,
-            };
+    let mut run = Run {
+        places: 0,
+        cells: 1,
+        first: 1,
+    };
+    for (k, l) in b.iter().zip(&a) {
+        if ends_run::<ALONG>(*k, *l) {
+            return run;
         }
-        cells = cells * k;
-        first = first * l;
+        run = Run {
+            places: run.places + 1,
+            cells: run.cells * usize::from(*k),
+            first: run.first * usize::from(*l),
+        };
     }
-    Run {
-        places: PLACES,
-        cells,
-        first,
-    }
+    run
 }
 
 // From cell d of a, where run r of b begins, to the one where the next run does. Only the conditions whose values
 // change are looked at, and a place of b that has none is passed by, since a division is dear.
-fn next(a: [u8; PLACES], b: [u8; PLACES], from: usize, r: usize, d: usize, first: usize) -> usize
-    requires { Shaped a × Shaped b × (from ≤ 8) × (first ≡ step a from) × (d ≡ first * remap_from from b a r) }
-    ensures { result ≡ first * remap_from from b a (r + 1) }
+fn next(a: [u8; PLACES], b: [u8; PLACES], run: Run, r: usize, d: usize) -> usize
+    requires { Shaped a × Shaped b × (run.places ≤ 8) × (run.first ≡ step a run.places) × (d ≡ run.first * remap_from run.places b a r) }
+    ensures { result ≡ run.first * remap_from run.places b a (r + 1) }
 {
     let mut rest = r;
     let mut at = d;
-    let mut step = first;
-    for i in from..PLACES {
-        let k = b[i] as usize;
-        let l = a[i] as usize;
+    let mut step = run.first;
+    for (k, l) in b[run.places..].iter().zip(&a[run.places..]) {
+        let k = usize::from(*k);
+        let l = usize::from(*l);
         if 1 < k {
             let value = rest % k;
-            at = at - value % l * step;
+            at -= value % l * step;
             if value + 1 < k {
                 return at + (value + 1) % l * step;
             }
-            rest = rest / k;
+            rest /= k;
         }
-        step = step * l;
+        step *= l;
     }
     at
 }
 
 // One run: the bytes from `from` on, or the one there for all of it.
-fn lay_run(w: &mut [u8], along: bool, from: usize, to: usize, len: usize)
-    requires { Apart w.old from (pick along len 1) to len }
-    ensures { Laid w.old to (tabulate len (λ o. at w.old (from + pick along o 0))) len w.new }
+fn lay_run<const ALONG: bool>(w: &mut [u8], from: usize, to: usize, len: usize)
+    requires { Apart w.old from (pick ALONG len 1) to len }
+    ensures { Laid w.old to (tabulate len (λ o. at w.old (from + pick ALONG o 0))) len w.new }
 {
-    if along {
+    if ALONG {
         fill::copy(w, from, to, len);
     } else {
         let grade = w[from];
@@ -111,9 +91,8 @@ fn lay_run(w: &mut [u8], along: bool, from: usize, to: usize, len: usize)
     }
 }
 
-// Run after run, with no division for a cell. Where a run begins is found once, for one table or for two. Callers give
-// `both` and `along` as constants, each in a call of its own: the compiler then makes a loop for each case.
-fn moved_runs(
+// Run after run, with no division for a cell. Where a run begins is found once, for one table or for two.
+fn moved_runs<const BOTH: bool, const ALONG: bool>(
     w: &mut [u8],
     a: [u8; PLACES],
     b: [u8; PLACES],
@@ -121,22 +100,43 @@ fn moved_runs(
     low: usize,
     high: usize,
     to: usize,
-    both: bool,
     run: Run,
-    along: bool,
 )
-    requires { Moving w.old a b n low high to both × Runs a b along run }
-    ensures { Laid w.old to (together both (moved a b (part w.old low (cells a))) (moved a b (part w.old high (cells a)))) (room both (cells b)) w.new }
+    requires { Moving w.old a b n low high to BOTH × Runs a b ALONG run }
+    ensures { Laid w.old to (together BOTH (moved a b (part w.old low (cells a))) (moved a b (part w.old high (cells a)))) (room BOTH (cells b)) w.new }
 {
     let len = run.cells;
     let count = n / len;
     let mut d: usize = 0;
+    // By number: it is an argument of `next`, and both offsets come from it.
     for r in 0..count {
-        lay_run(w, along, low + d, to + len * r, len);
-        if both {
-            lay_run(w, along, high + d, to + n + len * r, len);
+        lay_run::<ALONG>(w, low + d, to + len * r, len);
+        if BOTH {
+            lay_run::<ALONG>(w, high + d, to + n + len * r, len);
         }
-        d = next(a, b, run.places, r, d, run.first);
+        d = next(a, b, run, r, d);
+    }
+}
+
+// One table of n cells over the places b at `to`, or BOTH, one behind the other, from as many over a.
+fn moved_tables<const BOTH: bool>(
+    w: &mut [u8],
+    a: [u8; PLACES],
+    b: [u8; PLACES],
+    n: usize,
+    low: usize,
+    high: usize,
+    to: usize,
+)
+    requires { Moving w.old a b n low high to BOTH }
+    ensures { Laid w.old to (together BOTH (moved a b (part w.old low (cells a))) (moved a b (part w.old high (cells a)))) (room BOTH (cells b)) w.new }
+{
+    let same = run_of::<true>(a, b);
+    if 1 < same.cells {
+        moved_runs::<BOTH, true>(w, a, b, n, low, high, to, same);
+    } else {
+        let other = run_of::<false>(a, b);
+        moved_runs::<BOTH, false>(w, a, b, n, low, high, to, other);
     }
 }
 
@@ -145,13 +145,7 @@ pub fn moved(w: &mut [u8], a: [u8; PLACES], b: [u8; PLACES], n: usize, from: usi
     requires { Shaped a × Shaped b × (n ≡ cells b) × Apart w.old from (cells a) to (cells b) }
     ensures { Laid w.old to (moved a b (part w.old from (cells a))) (cells b) w.new }
 {
-    let same = same_run(a, b);
-    if 1 < same.cells {
-        moved_runs(w, a, b, n, from, from, to, false, same, true);
-    } else {
-        let other = other_run(a, b);
-        moved_runs(w, a, b, n, from, from, to, false, other, false);
-    }
+    moved_tables::<false>(w, a, b, n, from, from, to);
 }
 
 // Two tables of n cells over the places b, one behind the other at `to`, from two over a.
@@ -167,16 +161,11 @@ pub fn moved_both(
     requires { Shaped a × Shaped b × (n ≡ cells b) × Apart w.old low (cells a) to (2 * cells b) × Apart w.old high (cells a) to (2 * cells b) }
     ensures { Laid w.old to (moved a b (part w.old low (cells a)) ++ moved a b (part w.old high (cells a))) (2 * cells b) w.new }
 {
-    let same = same_run(a, b);
-    if 1 < same.cells {
-        moved_runs(w, a, b, n, low, high, to, true, same, true);
-    } else {
-        let other = other_run(a, b);
-        moved_runs(w, a, b, n, low, high, to, true, other, false);
-    }
+    moved_tables::<true>(w, a, b, n, low, high, to);
 }
 
-// The cells where the lowest condition, of cardinality `card`, is k.
+// The cells where the lowest condition, of cardinality `card`, is k. Here and in the two below one part of a buffer is
+// read while another is written, which no two slices can lend: so the places are counted.
 pub fn cofactor(w: &mut [u8], from: usize, to: usize, n: usize, card: usize, k: usize)
     requires { (k < card) × Apart w.old from (card * n) to n }
     ensures { Laid w.old to (tabulate n (λ c. at (part w.old from (card * n)) (k + card * c))) n w.new }

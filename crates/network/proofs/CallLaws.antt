@@ -2,21 +2,22 @@
 use Prim.Native.Nat.{ℕ, ◌/◌, ◌≤◌}
 use mathlib.Core.Path.{◌≡◌, refl, sym, ◌∙◌, ap, ap₂}
 use mathlib.Core.Bool.{Bool, true, ◌&&◌}
-use mathlib.Core.List.{List, [], ◌∷◌, map}
-use lib.Dec.{T, leb, ltb, leb→le}
+use mathlib.Core.List.{List, [], ◌∷◌}
+use Rattle.std.specs.Prelude.{Ok, Err}
+use lib.Dec.{leb, leb→le}
 use lib.ListN.{length}
 use Rattle.rules.specs.declared.Refusal.{Refusal}
-use Rattle.rules.specs.declared.Refusal.TheVariants.{ShapeRange, GradeLimits, ShortBuffer, Network, CellNumber}
+use Rattle.rules.specs.declared.Refusal.TheVariants.{ShapeRange, GradeLimits, ShortBuffer, Network}
 use Rattle.rules.specs.Cell.{cells}
 use Rattle.rules.specs.Limits.{limits_of, limits_sound}
-use Rattle.rules.specs.Verdict.{Verdict, accepted, unless, roomy}
-use Rattle.rules.specs.Network.{network_sound, evaluate}
-use Rattle.rules.specs.NetworkCalls.{check_from, evaluate_call}
-use Rattle.rules.specs.Visits.{visit_byte}
+use Rattle.rules.specs.Verdict.{Verdict, accepted, refused, unless, and_then, outcome_of, roomy}
+use Rattle.rules.specs.Network.{network_sound}
+use Rattle.rules.specs.NetworkCalls.{check_from}
 use Rattle.shape.specs.declared.Shape.{Shape}
-use Rattle.shape.specs.Shapes.{cards_of, places_of, is_sound}
-use Rattle.laws.proofs.TestLaws.{and_l, and_r, passes}
-use Rattle.network.specs.EvaluatingEach.{each_rows}
+use Rattle.shape.specs.Shapes.{places_of, is_sound}
+use Rattle.laws.proofs.TestLaws.{and_l, and_r, and_true, passes}
+use Rattle.laws.proofs.VerdictLaws.{row_passed, below_rows, was_ok, was_err}
+use Rattle.network.specs.Evaluating.{judged}
 use Rattle.network.specs.Checking.{check_rows}
 
 -- a row whose test is known, above rows that are
@@ -24,7 +25,7 @@ row : {A : Type 0} (r : Refusal) (a a' : Bool) (v v' : Verdict A) → a ≡ a' �
 row r a a' v v' p q = ap₂ (λ (b : Bool) (u : Verdict _). unless b r u) p q
 
 module _ (shape : Shape) (net : List ℕ) where
-  -- the tests of a shape, of the work buffer, of the network
+  -- the tests of the work buffer, and of the network
   abbrev pub room_test : List ℕ → Bool
   room_test work = leb (length net / 16) (length work)
 
@@ -35,18 +36,23 @@ module _ (shape : Shape) (net : List ℕ) where
   pub network_tested : {ks : List ℕ} {r b : Bool} → ks ≡ places_of shape → r ≡ network_sound ks shape.m net → r ≡ b → network_test ≡ b
   network_tested p s e = ap (λ (ks : List ℕ). network_sound ks shape.m net) (sym p) ∙ sym s ∙ e
 
-  pub evaluate_by : (cell : ℕ) (work : List ℕ) (a b d e : Bool) → is_sound shape ≡ a → room_test work ≡ b → network_test ≡ d → ltb cell (cells (places_of shape)) ≡ e
-      → evaluate_call shape.n (cards_of shape) shape.m net (length work) cell
-      ≡ unless a ShapeRange (unless b ShortBuffer (unless d Network (unless e CellNumber (accepted (evaluate (places_of shape) net cell)))))
-  evaluate_by cell work a b d e p q s t =
-      row ShapeRange _ a _ _ p (row ShortBuffer _ b _ _ q (row Network _ d _ _ s (row CellNumber _ e (accepted (evaluate (places_of shape) net cell)) _ t refl)))
+  module _ (room : Bool) where
+    -- a call that begins as `judged` does: it stops there, or goes on below
+    pub judged-stops : {A : Type 0} (v : Verdict A) {q : Refusal} → Err q ≡ outcome_of (judged shape net room)
+        → unless (is_sound shape) ShapeRange (unless room ShortBuffer (unless network_test Network v)) ≡ refused q
+    judged-stops v e = below_rows (is_sound shape) room network_test ShapeRange ShortBuffer Network v ∙ ap (λ (w : Verdict (Unit {0})). and_then w (λ u. v)) (was_err (λ u. tt) (judged shape net room) e)
 
-  pub each_by : (visits grades work : List ℕ) (a b d e : Bool) → is_sound shape ≡ a → room_test work ≡ b → leb (length visits) (length grades) ≡ d → network_test ≡ e
-      → each_rows net visits grades work shape
-      ≡ unless a ShapeRange (unless (b && d) ShortBuffer (unless e Network (accepted (map (visit_byte (places_of shape) net) visits))))
-  each_by visits grades work a b d e p q s t =
-      row ShapeRange _ a _ _ p
-      (row ShortBuffer _ (b && d) _ _ (ap₂ (λ (x y : Bool). x && y) q s) (row Network _ e (accepted (map (visit_byte (places_of shape) net) visits)) _ t refl))
+    pub judged-goes_on : {A : Type 0} (v : Verdict A) → Ok tt ≡ outcome_of (judged shape net room)
+        → unless (is_sound shape) ShapeRange (unless room ShortBuffer (unless network_test Network v)) ≡ v
+    judged-goes_on v e =
+        below_rows (is_sound shape) room network_test ShapeRange ShortBuffer Network v ∙ ap (λ (w : Verdict (Unit {0})). and_then w (λ u. v)) (was_ok (λ u. tt) (judged shape net room) e).1
+
+    -- and what it has then passed
+    pub judged-passed : Ok tt ≡ outcome_of (judged shape net room) → (is_sound shape ≡ true) × (room ≡ true) × (network_test ≡ true)
+    judged-passed e =
+        let sound = row_passed (is_sound shape) ShapeRange _ (was_ok (λ u. tt) (judged shape net room) e).1 in
+        let roomy = row_passed room ShortBuffer _ sound.1 in
+        (sound.0, roomy.0, (row_passed network_test Network _ roomy.1).0)
 
   pub check_by : (lower upper work : List ℕ) (a b d f g : Bool) → is_sound shape ≡ a → roomy (cells (places_of shape)) (length lower ∷ length upper ∷ []) ≡ b → room_test work ≡ d
       → limits_sound (places_of shape) shape.m (limits_of lower upper) ≡ f → network_test ≡ g
@@ -62,7 +68,8 @@ module _ (shape : Shape) (net : List ℕ) where
       (row Network _ g (accepted (check_from (places_of shape) (limits_of lower upper) net 0 (cells (places_of shape)))) _ u refl)))
 
 -- two buffers with room
+pub both_fit : {a b d e : ℕ} → (leb a b && leb d e) ≡ true → (a ≤ b) × (d ≤ e)
+both_fit {a} {b} {d} {e} h = (leb→le a b (and_l (leb a b) (leb d e) (passes h)), leb→le d e (and_r (leb a b) (leb d e) (passes h)))
+
 pub roomy-means : (n a b : ℕ) → roomy n (a ∷ b ∷ []) ≡ true → (n ≤ a) × (n ≤ b)
-roomy-means n a b e =
-    let t : T (leb n a && (leb n b && true)) = passes e in
-    (leb→le n a (and_l (leb n a) (leb n b && true) t), leb→le n b (and_l (leb n b) true (and_r (leb n a) (leb n b && true) t)))
+roomy-means n a b e = both_fit (ap (λ (x : Bool). leb n a && x) (and_true (leb n b)) ∙ e)

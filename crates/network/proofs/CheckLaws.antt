@@ -6,6 +6,7 @@ use mathlib.Core.List.{List, [], ◌∷◌}
 use native.Mathlib.Nat.{le_refl}
 use native.Mathlib.Numerals.{add-one}
 use native.Mathlib.Omega.{arith}
+use Rattle.std.specs.Prelude.{Option, Some, None, Result, Ok, Err}
 use lib.Dec.{T, leb, leb→le, le→leb}
 use lib.ListN.{length}
 use Rattle.rules.specs.declared.Refusal.{Refusal}
@@ -22,10 +23,9 @@ use Rattle.shape.specs.declared.Shape.{Shape}
 use Rattle.shape.specs.Shapes.{places_of, is_sound}
 use Rattle.laws.proofs.CeilingLaws.{sound-capped}
 use Rattle.laws.proofs.TestLaws.{and_l, and_r, and_i, by_order, passed, passes}
-use Rattle.laws.proofs.VerdictLaws.{refused-accepted, accepted-same, row_passed, outside-within}
-use Rattle.network.specs.declared.CheckAnswer.{CheckAnswer}
-use Rattle.network.specs.declared.CheckAnswer.TheVariants.{Within, Outside, Refused}
-use Rattle.network.specs.Checking.{check_verdict, check_rows, EveryWithin, Checked, check_means, result_values}
+use Rattle.laws.proofs.VerdictLaws.{refused-accepted, accepted-same, row_passed, outside-within, says-verdict}
+use Rattle.network.specs.declared.Outside.{Outside}
+use Rattle.network.specs.Checking.{result_found, check_verdict, check_rows, EveryWithin, Checked, result_values}
 use Rattle.network.proofs.CallLaws.{network_test, room_test}
 
 cond-within : (b : Bool) (x : CheckResult) (c q : ℕ) → cond b x (outside c q) ≡ within → T b × (x ≡ within)
@@ -70,18 +70,10 @@ unless-zero : {A : Type 0} (b : Bool) (q : Refusal) (v : Verdict A) → (refusal
 unless-zero true q v n e = refl
 unless-zero false q v n e = absurd (n e)
 
-answer-within : (answer : CheckAnswer) → check_verdict answer ≡ accepted within → answer ≡ Within
-answer-within Within e = refl
-answer-within (Outside c q) e = outside-within (accepted-same e)
-answer-within (Refused r) e = refused-accepted e
-
-check_means_by : (answer : CheckAnswer) → check_means answer ≡ answer_of result_values (check_verdict answer)
-check_means_by Within = refl
-check_means_by (Outside c q) = refl
-check_means_by (Refused r) = refl
-
-pub never_refused : {P : Type 0} (answer : CheckAnswer) (x : CheckResult) → check_verdict answer ≡ accepted x → (r : Refusal) → answer ≡ Refused r → P
-never_refused answer x e r w = refused-accepted (sym (ap check_verdict w) ∙ e)
+answer-within : (answer : Result (Option Outside) Refusal) → check_verdict answer ≡ accepted within → answer ≡ Ok None
+answer-within (Ok None) e = refl
+answer-within (Ok (Some found)) e = outside-within (accepted-same e)
+answer-within (Err r) e = refused-accepted e
 
 module _ (shape : Shape) (net lower upper work : List ℕ) where
   abbrev found : CheckResult
@@ -134,12 +126,12 @@ module _ (shape : Shape) (net lower upper work : List ℕ) where
       and_i (leb (at lower c) q) (leb q (at upper c)) (le→leb (at lower c) q p.0) (le→leb q (at upper c) p.1))
 
   -- the plain words follow from the answer
-  pub checked : (after : List ℕ) (answer : CheckAnswer) → ((r : Refusal) → answer ≡ Refused r → after ≡ work) → Past (length net / 16) work after
+  pub checked : (after : List ℕ) (answer : Result (Option Outside) Refusal) → ((r : Refusal) → answer ≡ Err r → after ≡ work) → Past (length net / 16) work after
       → check_verdict answer ≡ check_rows shape net lower upper work → Checked shape net lower upper work after answer
   checked after answer keeps kept e =
       record {
         answers = e;
-        means = check_means_by answer ∙ ap (answer_of result_values) e;
+        means = says-verdict result_found result_values answer ∙ ap (answer_of result_values) e;
         refusal_keeps = keeps;
         kept = kept;
         within-means = λ w.

@@ -5,10 +5,9 @@ use mathlib.Core.Bool.{Bool, true, false, ◌&&◌}
 use mathlib.Core.List.{List, [], ◌∷◌, ◌++◌, map}
 use native.Mathlib.Omega.{arith}
 use borrow.Author.Tests.{lt-ltb, le-leb}
+use Rattle.std.specs.Prelude.{Result, Ok, Err}
 use lib.Dec.{leb, ltb}
 use lib.ListN.{length, drop, length-map, get_or-append}
-use Rattle.rules.specs.declared.Outcome.{Outcome}
-use Rattle.rules.specs.declared.Outcome.TheVariants.{Written, Refused}
 use Rattle.rules.specs.declared.Refusal.{Refusal}
 use Rattle.rules.specs.declared.Refusal.TheVariants.{ShapeRange, ShortBuffer, Network, CellNumber}
 use Rattle.rules.specs.Bytes.{pick, at, Past}
@@ -21,7 +20,7 @@ use Rattle.rules.specs.Demands.{Capped}
 use Rattle.laws.proofs.TestLaws.{and_true, passes}
 use Rattle.laws.proofs.CeilingLaws.{sound-capped}
 use Rattle.laws.proofs.TableLaws.{at_map}
-use Rattle.laws.proofs.VerdictLaws.{refused-accepted, accepted-same, row_pass, row_passed, same_stop, outcome_means_lem, was_written, was_refused}
+use Rattle.laws.proofs.VerdictLaws.{refused-accepted, accepted-same, row_pass, row_passed, same_stop, result-says, was_ok, was_err, ok-err}
 use Rattle.laws.proofs.ByteLaws.{past_same}
 use Rattle.shape.specs.declared.Shape.{Shape}
 use Rattle.shape.specs.Shapes.{cards_of, places_of, is_sound}
@@ -99,30 +98,30 @@ module _ (shape : Shape) (net visits grades work : List ℕ) where
       e
 
   -- the promise, of an answer by the rows
-  each_by_rows : {r : Outcome} {grades' work' : List ℕ} → r ≡ outcome_of rows → grades' ≡ grades_after rows grades → ((q : Refusal) → r ≡ Refused q → work' ≡ work)
+  each_by_rows : {r : Result (Unit {0}) Refusal} {grades' work' : List ℕ} → r ≡ outcome_of rows → grades' ≡ grades_after rows grades → ((q : Refusal) → r ≡ Err q → work' ≡ work)
       → (length visits ≡ 0 → work' ≡ work) → Past (length net / 16) work work' → EvaluatedEach shape net visits grades work r grades' work'
   each_by_rows e after keeps none kept =
       record {
         answer = e;
-        means = ap outcome_means e ∙ outcome_means_lem rows;
+        means = ap outcome_means e ∙ result-says (λ b. tt) (λ u. []) rows;
         grades-after = after;
-        grade-means = λ a i h l. subst (λ (g : List ℕ). GradeAt shape net (at visits i) (at g i)) (sym after) (each-grade (was_written rows (sym a ∙ e)).1 i h l);
-        capped = λ a. each-capped (was_written rows (sym a ∙ e)).1;
+        grade-means = λ a i h l. subst (λ (g : List ℕ). GradeAt shape net (at visits i) (at g i)) (sym after) (each-grade (was_ok (λ b. tt) rows (sym a ∙ e)).1 i h l);
+        capped = λ a. each-capped (was_ok (λ b. tt) rows (sym a ∙ e)).1;
         as_single = λ a i h w w' s room found.
-            found.answers ∙ each-single (was_written rows (sym a ∙ e)).1 i h (length w) room ∙ ap (λ (g : List ℕ). byte_verdict (at g i)) (sym after);
-        stops_as_single = λ q a room cell w' s found. found.answers ∙ stops-single (was_refused rows (sym a ∙ e)) room cell;
+            found.answers ∙ each-single (was_ok (λ b. tt) rows (sym a ∙ e)).1 i h (length w) room ∙ ap (λ (g : List ℕ). byte_verdict (at g i)) (sym after);
+        stops_as_single = λ q a room cell w' s found. found.answers ∙ stops-single (was_err (λ b. tt) rows (sym a ∙ e)) room cell;
         refusal_keeps = keeps;
         none-keeps = λ h. (after ∙ none_after (visit_byte ks net) visits grades h rows (λ bytes u. bytes_are u), none h);
         kept = kept;
       }
 
-  pub each-stops : {r : Refusal} → rows ≡ refused r → EvaluatedEach shape net visits grades work (Refused r) grades work
+  pub each-stops : {r : Refusal} → rows ≡ refused r → EvaluatedEach shape net visits grades work (Err r) grades work
   each-stops e =
       each_by_rows (sym (ap outcome_of e)) (sym (ap (λ (v : Verdict (List ℕ)). grades_after v grades) e)) (λ q h. refl) (λ h. refl) past_same
 
   pub each-answers : rows ≡ accepted (map (visit_byte ks net) visits) → {grades' work' : List ℕ} → VisitedEach shape net visits grades work grades' work'
-      → EvaluatedEach shape net visits grades work Written grades' work'
+      → EvaluatedEach shape net visits grades work (Ok tt) grades' work'
   each-answers e found =
       each_by_rows (sym (ap outcome_of e))
       (found.bytes ∙ ap (λ (n : ℕ). map (visit_byte ks net) visits ++ drop n grades) (sym (length-map visits (visit_byte ks net))) ∙ sym (ap (λ (v : Verdict (List ℕ)). grades_after v grades) e))
-      (λ r h. let z : ◌≡◌ {A = ℕ} 0 1 = cc in absurd (omega arith)) found.none-keeps found.kept
+      (λ q h. ok-err h) found.none-keeps found.kept

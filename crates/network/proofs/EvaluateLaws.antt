@@ -3,6 +3,7 @@ use Prim.Native.Nat.{ℕ, ◌/◌, ◌<◌}
 use mathlib.Core.Path.{◌≡◌, refl, sym, ◌∙◌, ap, subst}
 use mathlib.Core.Bool.{true}
 use mathlib.Core.List.{List, [], ◌∷◌}
+use Rattle.std.specs.Prelude.{Result, Ok, Err}
 use lib.Dec.{leb, ltb}
 use lib.ListN.{length}
 use Rattle.rules.specs.declared.Refusal.{Refusal}
@@ -14,19 +15,13 @@ use Rattle.rules.specs.Network.{network_sound, evaluate}
 use Rattle.rules.specs.NetworkCalls.{evaluate_call}
 use Rattle.rules.specs.Demands.{Capped}
 use Rattle.laws.proofs.TestLaws.{passes}
-use Rattle.laws.proofs.VerdictLaws.{refused-accepted, accepted-same, row_passed}
+use Rattle.laws.proofs.VerdictLaws.{accepted-same, row_passed, ok-err, says-verdict}
 use Rattle.laws.proofs.CeilingLaws.{sound-capped}
 use Rattle.laws.proofs.ByteLaws.{past_same}
 use Rattle.shape.specs.declared.Shape.{Shape}
 use Rattle.shape.specs.Shapes.{cards_of, places_of, is_sound}
 use Rattle.network_run.proofs.BelowLaws.{grade-below}
-use Rattle.network.specs.declared.Evaluation.{Evaluation}
-use Rattle.network.specs.declared.Evaluation.TheVariants.{Grade, Refused}
-use Rattle.network.specs.Evaluating.{evaluation_verdict, evaluation_means, GradeAt, Evaluated}
-
-means : (answer : Evaluation) → evaluation_means answer ≡ answer_of (λ q. q ∷ []) (evaluation_verdict answer)
-means (Grade q) = refl
-means (Refused r) = refl
+use Rattle.network.specs.Evaluating.{evaluation_verdict, GradeAt, Evaluated}
 
 -- the grade of a sound network
 pub network-grade : {shape : Shape} {net : List ℕ} {cell q : ℕ} → is_sound shape ≡ true → network_sound (places_of shape) shape.m net ≡ true
@@ -48,15 +43,15 @@ module _ (shape : Shape) (net : List ℕ) (cell : ℕ) (work : List ℕ) where
       let there = row_passed (ltb cell (cells ks)) CellNumber _ network.1 in
       (network-grade sound.0 network.0 (sym (accepted-same there.1)), sound-capped ks shape.m net (passes network.0))
 
-  module _ {answer : Evaluation} (e : evaluation_verdict answer ≡ rows) where
-    grade-means : (q : ℕ) → answer ≡ Grade q → GradeAt shape net cell q × Capped (places_of shape) net
+  module _ {answer : Result ℕ Refusal} (e : evaluation_verdict answer ≡ rows) where
+    grade-means : (q : ℕ) → answer ≡ Ok q → GradeAt shape net cell q × Capped (places_of shape) net
     grade-means q a = grade-at (sym e ∙ ap evaluation_verdict a)
 
-    pub evaluated : {after : List ℕ} → ((r : Refusal) → answer ≡ Refused r → after ≡ work) → Past (length net / 16) work after → Evaluated shape net cell work after answer
+    pub evaluated : {after : List ℕ} → ((r : Refusal) → answer ≡ Err r → after ≡ work) → Past (length net / 16) work after → Evaluated shape net cell work after answer
     evaluated keeps kept =
         record {
           answers = e;
-          means = means answer ∙ ap (answer_of (λ (q : ℕ). q ∷ [])) e;
+          means = says-verdict (λ (q : ℕ). q) (λ (q : ℕ). q ∷ []) answer ∙ ap (answer_of (λ (q : ℕ). q ∷ [])) e;
           grade-means = λ q a. (grade-means q a).0;
           capped = λ q a. (grade-means q a).1;
           refusal_keeps = keeps;
@@ -64,9 +59,9 @@ module _ (shape : Shape) (net : List ℕ) (cell : ℕ) (work : List ℕ) where
         }
 
   -- a refusal
-  pub evaluate-stops : {r : Refusal} → refused r ≡ rows → Evaluated shape net cell work work (Refused r)
+  pub evaluate-stops : {r : Refusal} → refused r ≡ rows → Evaluated shape net cell work work (Err r)
   evaluate-stops e = evaluated e (λ q h. refl) past_same
 
   -- a grade
-  pub evaluate-answers : {q : ℕ} {after : List ℕ} → accepted q ≡ rows → Past (length net / 16) work after → Evaluated shape net cell work after (Grade q)
-  evaluate-answers e kept = evaluated e (λ r h. refused-accepted (sym (ap evaluation_verdict h))) kept
+  pub evaluate-answers : {q : ℕ} {after : List ℕ} → accepted q ≡ rows → Past (length net / 16) work after → Evaluated shape net cell work after (Ok q)
+  evaluate-answers e kept = evaluated e (λ r h. ok-err h) kept

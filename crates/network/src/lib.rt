@@ -3,45 +3,30 @@
 #![tactic(auto)]
 
 ghost use Rattle.std.specs.Prelude.{◌≡◌, ◌&&◌, [], ◌∷◌, leb};
-ghost use Rattle.rules.specs.Verdict.{roomy};
-ghost use Rattle.network.specs.Evaluating.{Evaluated};
+ghost use Rattle.rules.specs.Verdict.{roomy, outcome_of};
+ghost use Rattle.network.specs.Evaluating.{judged, Evaluated};
 ghost use Rattle.network.specs.EvaluatingEach.{EvaluatedEach};
 ghost use Rattle.network.specs.Checking.{Checked, Checkable, Searched};
 
-use rules::{Outcome, RECORD, Refusal};
+use rules::{RECORD, Refusal};
 use shape::Shape;
 
+// The first cell outside its limits, and the grade there.
 #[derive(Clone, Copy)]
-pub enum Evaluation {
-    Grade(u8),
-    Refused(Refusal),
-}
-
-#[derive(Clone, Copy)]
-pub enum CheckAnswer {
-    Within,
-    // The first cell outside, and its grade there.
-    Outside { cell: usize, grade: u8 },
-    Refused(Refusal),
+pub struct Outside {
+    pub cell: usize,
+    pub grade: u8,
 }
 
 // The network's grade at a cell. The work buffer has a byte for each record.
-pub fn evaluate(network: &[u8], shape: Shape, work: &mut [u8], cell: usize) -> Evaluation
+pub fn evaluate(network: &[u8], shape: Shape, work: &mut [u8], cell: usize) -> Result<u8, Refusal>
     ensures { Evaluated shape network.now cell work.old work.new result }
 {
-    if !shape.sound() {
-        return Evaluation::Refused(Refusal::ShapeRange);
-    }
-    if work.len() < network.len() / RECORD {
-        return Evaluation::Refused(Refusal::ShortBuffer);
-    }
-    if !network_scan::scan(network, shape.places(), shape.m) {
-        return Evaluation::Refused(Refusal::Network);
-    }
+    judge(network, shape, network.len() / RECORD <= work.len())?;
     if shape.cells() <= cell {
-        return Evaluation::Refused(Refusal::CellNumber);
+        return Err(Refusal::CellNumber);
     }
-    Evaluation::Grade(network_run::grade_at(network, shape, cell, work))
+    Ok(network_run::grade_at(network, shape, cell, work))
 }
 
 // The network's grade at each cell of a list, 255 for a number that is no cell's. The work buffer
@@ -52,52 +37,59 @@ pub fn evaluate_each(
     cells: &[u16],
     grades: &mut [u8],
     work: &mut [u8],
-) -> Outcome
+) -> Result<(), Refusal>
     ensures { EvaluatedEach shape network.now cells.now grades.old work.old result grades.new work.new }
 {
-    if !shape.sound() {
-        return Outcome::Refused(Refusal::ShapeRange);
-    }
-    if work.len() < network.len() / RECORD {
-        return Outcome::Refused(Refusal::ShortBuffer);
-    }
-    if grades.len() < cells.len() {
-        return Outcome::Refused(Refusal::ShortBuffer);
-    }
-    if !network_scan::scan(network, shape.places(), shape.m) {
-        return Outcome::Refused(Refusal::Network);
-    }
+    let room = network.len() / RECORD <= work.len() && cells.len() <= grades.len();
+    judge(network, shape, room)?;
     network_visits::grade_each(network, shape, cells, grades, work);
-    Outcome::Written
+    Ok(())
 }
 
-// Whether the network's grade lies within the limits at every cell.
+// What evaluating asks first: a sound shape, room in the lent buffers, a sound network.
+fn judge(network: &[u8], shape: Shape, room: bool) -> Result<(), Refusal>
+    ensures { result ≡ outcome_of (judged shape network.now room) }
+{
+    if !shape.sound() {
+        return Err(Refusal::ShapeRange);
+    }
+    if !room {
+        return Err(Refusal::ShortBuffer);
+    }
+    if !network_scan::scan(network, shape.places(), shape.m) {
+        return Err(Refusal::Network);
+    }
+    Ok(())
+}
+
+// Whether the network's grade lies within the limits at every cell, or the first cell outside.
 pub fn check(
     network: &[u8],
     shape: Shape,
     lower: &[u8],
     upper: &[u8],
     work: &mut [u8],
-) -> CheckAnswer
+) -> Result<Option<Outside>, Refusal>
     ensures { Checked shape network.now lower.now upper.now work.old work.new result }
 {
+    // Not by `judge`: row 5 stands between 10 and 11.
     if !shape.sound() {
-        return CheckAnswer::Refused(Refusal::ShapeRange);
+        return Err(Refusal::ShapeRange);
     }
     let cells = shape.cells();
     if !has_room(cells, lower.len(), upper.len()) {
-        return CheckAnswer::Refused(Refusal::ShortBuffer);
+        return Err(Refusal::ShortBuffer);
     }
     if work.len() < network.len() / RECORD {
-        return CheckAnswer::Refused(Refusal::ShortBuffer);
+        return Err(Refusal::ShortBuffer);
     }
     if !tables::limits::limits_sound(lower, upper, shape.m, cells) {
-        return CheckAnswer::Refused(Refusal::GradeLimits);
+        return Err(Refusal::GradeLimits);
     }
     if !network_scan::scan(network, shape.places(), shape.m) {
-        return CheckAnswer::Refused(Refusal::Network);
+        return Err(Refusal::Network);
     }
-    first_outside(network, shape, lower, upper, work)
+    Ok(first_outside(network, shape, lower, upper, work))
 }
 
 // Whether both limit buffers have a byte for each cell.
@@ -114,22 +106,23 @@ fn first_outside(
     lower: &[u8],
     upper: &[u8],
     work: &mut [u8],
-) -> CheckAnswer
+) -> Option<Outside>
     requires { Checkable shape network.now lower.now upper.now work.old }
     ensures { Searched shape network.now lower.now upper.now work.old work.new result }
 {
     let cells = shape.cells();
-    for cell in 0..cells {
+    let limits = lower[..cells].iter().zip(&upper[..cells]);
+    for (cell, (least, greatest)) in limits.enumerate() {
         let grade = network_run::grade_at(network, shape, cell, work);
-        if !grade_within(lower[cell], upper[cell], grade) {
-            return CheckAnswer::Outside { cell, grade };
+        if !grade_within(*least, *greatest, grade) {
+            return Some(Outside { cell, grade });
         }
     }
-    CheckAnswer::Within
+    None
 }
 
 fn grade_within(lower: u8, upper: u8, grade: u8) -> bool
     ensures { result ≡ (leb lower grade && leb grade upper) }
 {
-    lower <= grade && grade <= upper
+    (lower..=upper).contains(&grade)
 }

@@ -4,12 +4,14 @@
 // records. The buffer holds 99 everywhere before.
 #![tactic(auto)]
 
-use network::{CheckAnswer, Evaluation};
+use network::Outside;
+use rules::Refusal;
 use shape::Shape;
 
 mod visits;
 
 // A network of at most sixteen records.
+// A program without a heap owns its bytes, so their number stands beside them.
 #[derive(Clone, Copy)]
 struct Records {
     bytes: [u8; 256],
@@ -21,14 +23,6 @@ fn none() -> Records {
         bytes: [0; 256],
         len: 0,
     }
-}
-
-fn lesser(a: u8, b: u8) -> u8 {
-    if a < b { a } else { b }
-}
-
-fn greater(a: u8, b: u8) -> u8 {
-    if a < b { b } else { a }
 }
 
 impl Records {
@@ -67,44 +61,37 @@ impl Records {
     }
 
     fn literal(self, condition: u8, grade0: u8, grade1: u8) -> Records {
-        self.with(1, condition, greater(grade0, grade1), 0, 0, grade0, grade1)
+        self.with(1, condition, grade0.max(grade1), 0, 0, grade0, grade1)
     }
 
     // Byte 2 of a record.
     fn ceiling(self, k: u8) -> u8 {
-        let at = 16 * (k as usize) + 2;
-        if 256 <= at {
-            return 0;
-        }
-        let bytes = self.bytes;
-        bytes[at]
+        let at = 16 * usize::from(k) + 2;
+        if at < 256 { self.bytes[at] } else { 0 }
     }
 
     fn min(self, left: u8, right: u8) -> Records {
-        let top = lesser(self.ceiling(left), self.ceiling(right));
+        let top = self.ceiling(left).min(self.ceiling(right));
         self.with(2, 0, top, left, right, 0, 0)
     }
 
     fn max(self, left: u8, right: u8) -> Records {
-        let top = greater(self.ceiling(left), self.ceiling(right));
+        let top = self.ceiling(left).max(self.ceiling(right));
         self.with(3, 0, top, left, right, 0, 0)
     }
 
     // With another byte at a place.
     fn changed(self, at: usize, byte: u8) -> Records {
-        if 256 <= at {
-            return self;
-        }
         let mut bytes = self.bytes;
-        bytes[at] = byte;
-        let len = self.len;
-        Records { bytes, len }
+        if let Some(place) = bytes.get_mut(at) {
+            *place = byte;
+        }
+        Records { bytes, ..self }
     }
 
     // Cut, or lengthened by zeros, to a number of bytes.
     fn of_length(self, len: usize) -> Records {
-        let bytes = self.bytes;
-        Records { bytes, len }
+        Records { len, ..self }
     }
 }
 
@@ -129,50 +116,52 @@ fn four(lower: [u8; 4], upper: [u8; 4]) -> Limits {
 
 impl Limits {
     fn of_lengths(self, lower_room: usize, upper_room: usize) -> Limits {
-        let lower = self.lower;
-        let upper = self.upper;
         Limits {
-            lower,
-            upper,
             lower_room,
             upper_room,
+            ..self
         }
     }
 }
 
-fn show_evaluation(answer: Evaluation) {
+fn show_evaluation(answer: Result<u8, Refusal>) {
     match answer {
-        Evaluation::Grade(grade) => {
+        Ok(grade) => {
             printing::text(b"grade ");
-            printing::number(grade as usize);
+            printing::number(usize::from(grade));
         }
-        Evaluation::Refused(refusal) => printing::refused(refusal),
+        Err(refusal) => printing::refused(refusal),
     }
 }
 
-fn show_check(answer: CheckAnswer) {
+fn show_check(answer: Result<Option<Outside>, Refusal>) {
     match answer {
-        CheckAnswer::Within => printing::text(b"within"),
-        CheckAnswer::Outside { cell, grade } => {
+        Ok(None) => printing::text(b"within"),
+        Ok(Some(found)) => {
             printing::text(b"outside at ");
-            printing::number(cell);
+            printing::number(found.cell);
             printing::text(b" with ");
-            printing::number(grade as usize);
+            printing::number(usize::from(found.grade));
         }
-        CheckAnswer::Refused(refusal) => printing::refused(refusal),
+        Err(refusal) => printing::refused(refusal),
     }
 }
 
-fn byte(x: u8) {
-    printing::text(b" ");
-    printing::number(x as usize);
+// Bytes, with a space before each.
+fn show_bytes(bytes: &[u8]) {
+    for byte in bytes {
+        printing::text(b" ");
+        printing::number(usize::from(*byte));
+    }
 }
 
-// The bytes from a place on.
-fn show_from(work: &[u8], from: usize) {
-    for i in from..work.len() {
-        byte(work[i]);
+// The bytes of the work buffer that a call had to leave: those from a place on.
+fn show_work(work: &[u8], from: usize) {
+    printing::text(b", work");
+    if from <= work.len() {
+        show_bytes(&work[from..]);
     }
+    printing::text(b"\n");
 }
 
 fn evaluate_into(name: &[u8], network: &[u8], shape: Shape, work: &mut [u8], cell: usize) {
@@ -180,27 +169,26 @@ fn evaluate_into(name: &[u8], network: &[u8], shape: Shape, work: &mut [u8], cel
     printing::text(b": ");
     let answer = network::evaluate(network, shape, work, cell);
     show_evaluation(answer);
-    let from = match answer {
-        Evaluation::Grade(_) => network.len() / 16,
-        Evaluation::Refused(_) => 0,
-    };
-    printing::text(b", work");
-    show_from(work, from);
-    printing::text(b"\n");
+    show_work(
+        work,
+        if answer.is_ok() {
+            network.len() / 16
+        } else {
+            0
+        },
+    );
 }
 
 fn evaluate(name: &[u8], network: &[u8], shape: Shape, room: usize, cell: usize) {
     let mut work = [99u8; 16];
     if room <= 16 {
-        evaluate_into(name, network, shape, &mut work[0..room], cell);
+        evaluate_into(name, network, shape, &mut work[..room], cell);
     }
 }
 
 fn try_cell(name: &[u8], records: Records, shape: Shape, room: usize, cell: usize) {
-    let bytes = records.bytes;
-    let len = records.len;
-    if len <= 256 {
-        evaluate(name, &bytes[0..len], shape, room, cell);
+    if records.len <= 256 {
+        evaluate(name, &records.bytes[..records.len], shape, room, cell);
     }
 }
 
@@ -216,47 +204,33 @@ fn check_into(
     printing::text(b": ");
     let answer = network::check(network, shape, lower, upper, work);
     show_check(answer);
-    let from = match answer {
-        CheckAnswer::Within => network.len() / 16,
-        CheckAnswer::Outside { .. } => network.len() / 16,
-        CheckAnswer::Refused(_) => 0,
-    };
-    printing::text(b", work");
-    show_from(work, from);
-    printing::text(b"\n");
+    show_work(
+        work,
+        if answer.is_ok() {
+            network.len() / 16
+        } else {
+            0
+        },
+    );
 }
 
-fn check(name: &[u8], network: &[u8], shape: Shape, lower: &[u8], upper: &[u8], room: usize) {
+fn check(name: &[u8], network: &[u8], shape: Shape, limits: Limits, room: usize) {
     let mut work = [99u8; 16];
-    if room <= 16 {
-        check_into(name, network, shape, lower, upper, &mut work[0..room]);
-    }
-}
-
-fn check_bytes(name: &[u8], network: &[u8], shape: Shape, limits: Limits, room: usize) {
-    let lower = limits.lower;
-    let upper = limits.upper;
-    let lower_room = limits.lower_room;
-    let upper_room = limits.upper_room;
-    if lower_room <= 6 {
-        if upper_room <= 6 {
-            check(
-                name,
-                network,
-                shape,
-                &lower[0..lower_room],
-                &upper[0..upper_room],
-                room,
-            );
-        }
+    if limits.lower_room <= 6 && limits.upper_room <= 6 && room <= 16 {
+        check_into(
+            name,
+            network,
+            shape,
+            &limits.lower[..limits.lower_room],
+            &limits.upper[..limits.upper_room],
+            &mut work[..room],
+        );
     }
 }
 
 fn try_check(name: &[u8], records: Records, shape: Shape, limits: Limits, room: usize) {
-    let bytes = records.bytes;
-    let len = records.len;
-    if len <= 256 {
-        check_bytes(name, &bytes[0..len], shape, limits, room);
+    if records.len <= 256 {
+        check(name, &records.bytes[..records.len], shape, limits, room);
     }
 }
 
@@ -409,9 +383,7 @@ fn evaluate_long(name: &[u8], network: &[u8], from: usize) {
     printing::text(name);
     printing::text(b": ");
     show_evaluation(network::evaluate(network, square(), &mut work, 0));
-    printing::text(b", work");
-    show_from(&work, from);
-    printing::text(b"\n");
+    show_work(&work, from);
 }
 
 fn lengths() {
@@ -486,7 +458,7 @@ fn cells() {
         parity(),
         square(),
         9,
-        18446744073709551615,
+        usize::MAX,
     );
     try_cell(
         b"cell 4 of a faulty network",

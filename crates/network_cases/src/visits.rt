@@ -2,27 +2,22 @@
 // number; then the whole buffer of the grades, and the bytes of the work buffer that the call had to
 // leave: all of them after a refusal and for an empty list. The buffers hold 77 and 99 before.
 use crate::Records;
-use rules::Outcome;
+use rules::Refusal;
 use shape::Shape;
 
-fn show_answer(answer: Outcome) {
+fn show_answer(answer: Result<(), Refusal>) {
     match answer {
-        Outcome::Written => printing::text(b"written"),
-        Outcome::Refused(refusal) => printing::refused(refusal),
+        Ok(()) => printing::text(b"written"),
+        Err(refusal) => printing::refused(refusal),
     }
 }
 
 // How many bytes of the work buffer a call may write.
-fn free(answer: Outcome, network: &[u8], cells: &[u16]) -> usize {
-    match answer {
-        Outcome::Written => {
-            if cells.len() == 0 {
-                return 0;
-            }
-            network.len() / 16
-        }
-        Outcome::Refused(_) => 0,
+fn free(answer: Result<(), Refusal>, network: &[u8], cells: &[u16]) -> usize {
+    if answer.is_err() || cells.is_empty() {
+        return 0;
     }
+    network.len() / 16
 }
 
 fn visit_into(
@@ -38,10 +33,8 @@ fn visit_into(
     let answer = network::evaluate_each(network, shape, cells, grades, work);
     show_answer(answer);
     printing::text(b", grades");
-    crate::show_from(grades, 0);
-    printing::text(b", work");
-    crate::show_from(work, free(answer, network, cells));
-    printing::text(b"\n");
+    crate::show_bytes(grades);
+    crate::show_work(work, free(answer, network, cells));
 }
 
 // How many of five numbers are lent, and bytes for their grades and for the work.
@@ -55,30 +48,22 @@ struct Lengths {
 fn visit(name: &[u8], network: &[u8], shape: Shape, cells: [u16; 5], lengths: Lengths) {
     let mut grades = [77u8; 8];
     let mut work = [99u8; 16];
-    let numbers = lengths.numbers;
-    let grades_room = lengths.grades;
-    let work_room = lengths.work;
-    if numbers <= 5 {
-        if grades_room <= 8 {
-            if work_room <= 16 {
-                visit_into(
-                    name,
-                    network,
-                    shape,
-                    &cells[0..numbers],
-                    &mut grades[0..grades_room],
-                    &mut work[0..work_room],
-                );
-            }
-        }
+    if lengths.numbers <= 5 && lengths.grades <= 8 && lengths.work <= 16 {
+        visit_into(
+            name,
+            network,
+            shape,
+            &cells[..lengths.numbers],
+            &mut grades[..lengths.grades],
+            &mut work[..lengths.work],
+        );
     }
 }
 
 fn try_list(name: &[u8], records: Records, shape: Shape, cells: [u16; 5], lengths: Lengths) {
-    let bytes = records.bytes;
-    let len = records.len;
-    if len <= 256 {
-        visit(name, &bytes[0..len], shape, cells, lengths);
+    if records.len <= 256 {
+        let network = &records.bytes[..records.len];
+        visit(name, network, shape, cells, lengths);
     }
 }
 

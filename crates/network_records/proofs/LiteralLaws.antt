@@ -1,86 +1,95 @@
--- A literal's bytes from eight grades.
-use Prim.Native.Nat.{ℕ, suc, ◌+◌, ◌≤◌, ◌<◌}
+-- A literal's bytes: its head, then its grades over zeros.
+use Prim.Native.Nat.{ℕ, suc, ◌+◌, ◌-◌, ◌≤◌, ◌<◌}
 use mathlib.Core.Path.{◌≡◌, refl, sym, ◌∙◌, ap, ap₂, subst}
 use mathlib.Core.Bool.{Bool, true, false}
 use mathlib.Core.List.{List, [], ◌∷◌, ◌++◌}
-use mathlib.Core.Logic.{⊎_elim}
-use native.Mathlib.Nat.{eq-or-lt_of_le}
 use native.Mathlib.Omega.{arith}
-use borrow.Author.Tests.{lt-ltb, le-ltb, eq-eqb, ne_eqb}
-use lib.Dec.{T, ltb, eqb, eqb→eq, eqb_refl}
-use lib.ListN.{length, set, take, replicate, length-take, length-append, get_or-replicate}
-use lib.Seq.{ext_get_or, take_at, get_or-take, get_or-set_same, get_or-set_other}
+use borrow.Author.Tests.{eq-eqb, ne_eqb}
+use lib.Dec.{eqb}
+use lib.ListN.{length, set, take, drop, replicate, length-set, length-take, length-replicate, get_or-replicate}
+use lib.Seq.{get_or-take, get_or-set_same, get_or-set_other, take-append-add}
+use Rattle.std.proofs.lemmas.List.{take-replicate, drop-replicate, take-append-drop, set-append_left, set-append_right}
 use Rattle.rules.specs.Bytes.{at, pick, tabulate, greatest}
 use Rattle.rules.specs.Network.{literal, record_bytes}
-use Rattle.laws.proofs.TestLaws.{by_order, by_test}
-use Rattle.laws.proofs.TableLaws.{at-tabulate, tabulate_self, tabulate_from_below, length-tabulate_from}
-use Rattle.laws.proofs.ByteLaws.{grade-here, grade_past}
+use Rattle.laws.proofs.TestLaws.{by_equal}
+use Rattle.laws.proofs.TableLaws.{at-tabulate, tabulate_self, tabulate_from_below}
 use Rattle.laws.proofs.CeilingLaws.{at-greatest, greatest-bound}
-use Rattle.network_records.specs.Grades.{Padded}
 
-length-eight : (gs : List ℕ) → length (take 8 (gs ++ replicate 8 0)) ≡ 8
-length-eight gs = length-take 8 (gs ++ replicate 8 0) ∙ omega (arith, length-append gs (replicate 8 0))
+-- up to eight grades stand over eight zeros
+over_zeros : (gs : List ℕ) (n : ℕ) → length gs ≡ n → n ≤ 8 → gs ++ drop n (replicate 8 0) ≡ take 8 (gs ++ replicate 8 0)
+over_zeros gs n e h =
+    let s : 8 ≡ length gs + (8 - n) = omega arith in
+    sym
+    (ap (λ (k : ℕ). take k (gs ++ replicate 8 0)) s
+    ∙ take-append-add gs (replicate 8 0) (8 - n)
+    ∙ ap (λ (t : List ℕ). gs ++ t) (take-replicate (8 - n) 8 0 (omega arith) ∙ sym (drop-replicate n 8 0)))
 
--- what stands at a place
-padded_at : (n : ℕ) (f : ℕ → ℕ) (v : ℕ) → n ≤ 8 → v < 8 → at (tabulate n f ++ replicate 8 0) v ≡ pick (ltb v n) (f v) 0
-padded_at n f v h l =
-    by_order n v
-    (λ le. grade_past (tabulate n f) v (omega (arith, length-tabulate_from f 0 n)) l ∙ sym (ap (λ (b : Bool). pick b (f v) 0) (le-ltb v n le)))
-    (λ lt. grade-here (tabulate n f) v (omega (arith, length-tabulate_from f 0 n)) ∙ at-tabulate n f v lt ∙ sym (ap (λ (b : Bool). pick b (f v) 0) (lt-ltb v n lt)))
+-- the first grades of a table
+table_front : (table : List ℕ) (n : ℕ) → n ≤ length table → take n table ≡ tabulate n (at table)
+table_front table n h =
+    let long : length (take n table) ≡ n = length-take n table ∙ omega arith in
+    sym (subst (λ (k : ℕ). tabulate k (at table) ≡ take n table) long (tabulate_self (at table) (take n table) (λ v l. sym (get_or-take n table v 0 (omega arith)))))
 
--- one grade more in a list of eight
-pub padded_none : (f : ℕ → ℕ) → Padded 0 f (replicate 8 0)
-padded_none f v h = get_or-replicate 8 v 0 0 h ∙ sym (ap (λ (b : Bool). pick b (f v) 0) (le-ltb v 0 (omega arith)))
-
-pub padded_more : (n : ℕ) (f : ℕ → ℕ) (gs : List ℕ) → n < length gs → Padded n f gs → Padded (n + 1) f (set gs n (f n))
-padded_more n f gs h p v l =
-    by_order v n
-    (λ le.
-    ⊎_elim
-    (λ e. subst (λ (w : ℕ). at (set gs n (f n)) w ≡ pick (ltb w (n + 1)) (f w) 0) (sym e) (get_or-set_same gs n (f n) 0 h ∙ sym (ap (λ (b : Bool). pick b (f n) 0) (lt-ltb n (n + 1) (omega arith)))))
-    (λ lt. get_or-set_other gs n v (f n) 0 (λ e. omega arith) ∙ p v l ∙ ap (λ (b : Bool). pick b (f v) 0) (lt-ltb v n lt ∙ sym (lt-ltb v (n + 1) (omega arith))))
-    (eq-or-lt_of_le le))
-    (λ lt. get_or-set_other gs n v (f n) 0 (λ e. omega arith) ∙ p v l ∙ ap (λ (b : Bool). pick b (f v) 0) (le-ltb v n (omega arith) ∙ sym (le-ltb v (n + 1) (omega arith))))
+pub literal_table : (i top n : ℕ) (table : List ℕ) {bytes gs : List ℕ} → n ≤ 8 → n ≤ length table → bytes ≡ record_bytes (literal i []) top → gs ≡ take n table
+    → take 8 bytes ++ (gs ++ drop (8 + n - 8) (drop 8 bytes)) ≡ record_bytes (literal i (tabulate n (at table))) top
+literal_table i top n table h l b g =
+    let long : length (take n table) ≡ n = length-take n table ∙ omega arith in
+    let m : 8 + n - 8 ≡ n = omega arith in
+    ap₂ (λ (xs ys : List ℕ). take 8 xs ++ (ys ++ drop (8 + n - 8) (drop 8 xs))) b g
+    ∙ ap (λ (t : List ℕ). 1 ∷ i ∷ top ∷ 0 ∷ 0 ∷ 0 ∷ 0 ∷ 0 ∷ t)
+    (ap (λ (k : ℕ). take n table ++ drop k (replicate 8 0)) m
+    ∙ over_zeros (take n table) n long h
+    ∙ ap (λ (t : List ℕ). take 8 (t ++ replicate 8 0)) (table_front table n l))
 
 -- one grade alone
-pub padded_one : (n k x : ℕ) → n ≤ 8 → k < n → Padded n (λ v. pick (eqb v k) x 0) (set (replicate 8 0) k x)
-padded_one n k x h l v q =
-    by_test (eqb v k)
-    (λ t.
-    let e : v ≡ k = eqb→eq v k t in
-    subst (λ (w : ℕ). at (set (replicate 8 0) k x) w ≡ pick (ltb w n) (pick (eqb w k) x 0) 0) (sym e)
-    (get_or-set_same (replicate 8 0) k x 0 (omega arith) ∙ sym (ap₂ (λ (a b : Bool). pick a (pick b x 0) 0) (lt-ltb k n l) (eq-eqb k k refl))))
-    (λ n'.
-    let ne : v ≡ k → ⊥ = λ e. n' (subst (λ (w : ℕ). T (eqb v w)) e (eqb_refl v)) in
-    get_or-set_other (replicate 8 0) k v x 0 ne ∙ get_or-replicate 8 v 0 0 q ∙ sym (ap (λ (b : Bool). pick (ltb v n) (pick b x 0) 0) (ne_eqb v k ne) ∙ same (ltb v n)))
-  where
-    same : (b : Bool) → pick b 0 0 ≡ 0
-    same true = refl
-    same false = refl
+module _ (n k x : ℕ) (h : n ≤ 8) (l : k < n) where
+  abbrev alone : ℕ → ℕ
+  alone v = pick (eqb v k) x 0
 
--- eight grades, with the greatest of those that are not padding
-pub literal_padded : (i n : ℕ) (f : ℕ → ℕ) (gs : List ℕ) {top : ℕ} → n ≤ 8 → length gs ≡ 8 → Padded n f gs → top ≡ greatest (tabulate n f)
-    → record_bytes (literal i gs) top ≡ record_bytes (literal i (tabulate n f)) (greatest (tabulate n f))
-literal_padded i n f gs h e p t =
-    ap₂ (λ (b : ℕ) (v : List ℕ). 1 ∷ i ∷ b ∷ 0 ∷ 0 ∷ 0 ∷ 0 ∷ 0 ∷ v) t
-    (ext_get_or 0 (take 8 (gs ++ replicate 8 0)) (take 8 (tabulate n f ++ replicate 8 0)) (length-eight gs ∙ sym (length-eight (tabulate n f)))
-    (λ v l.
-    let q : v < 8 = omega (arith, length-eight gs) in
-    get_or-take 8 (gs ++ replicate 8 0) v 0 q ∙ grade-here gs v (omega arith) ∙ p v q ∙ sym (get_or-take 8 (tabulate n f ++ replicate 8 0) v 0 q ∙ padded_at n f v h q)))
+  abbrev few_zeros : List ℕ
+  few_zeros = replicate n 0
 
--- eight grades one by one
-pub literal-bytes : (i top : ℕ) (gs : List ℕ) → length gs ≡ 8
-    → 1 ∷ i ∷ top ∷ 0 ∷ 0 ∷ 0 ∷ 0 ∷ 0 ∷ at gs 0 ∷ at gs 1 ∷ at gs 2 ∷ at gs 3 ∷ at gs 4 ∷ at gs 5 ∷ at gs 6 ∷ at gs 7 ∷ [] ≡ record_bytes (literal i gs) top
-literal-bytes i top gs e =
-    ap (λ (t : List ℕ). 1 ∷ i ∷ top ∷ 0 ∷ 0 ∷ 0 ∷ 0 ∷ 0 ∷ t)
-    (subst (λ (n : ℕ). tabulate n (at gs) ≡ gs) e (tabulate_self (at gs) gs (λ v h. refl)) ∙ sym (take_at gs (replicate 8 0) 8 e))
+  abbrev selector : List ℕ
+  selector = set few_zeros k x
+
+  length-few_zeros : length few_zeros ≡ n
+  length-few_zeros = length-replicate {A = ℕ} n 0
+
+  length-selector : length selector ≡ n
+  length-selector = length-set few_zeros k x ∙ length-few_zeros
+
+  selector_at : (v : ℕ) → v < n → alone v ≡ at selector v
+  selector_at v q =
+      by_equal v k
+      (λ e.
+      ap (λ (b : Bool). pick b x 0) (eq-eqb v k e)
+      ∙ sym (subst (λ (w : ℕ). at selector w ≡ x) (sym e) (get_or-set_same few_zeros k x 0 (omega (arith, length-few_zeros)))))
+      (λ ne. ap (λ (b : Bool). pick b x 0) (ne_eqb v k ne) ∙ sym (get_or-set_other few_zeros k v x 0 ne ∙ get_or-replicate n v 0 0 q))
+
+  selector_grades : tabulate n alone ≡ selector
+  selector_grades =
+      subst (λ (m : ℕ). tabulate m alone ≡ selector) length-selector (tabulate_self alone selector (λ v q. selector_at v (omega (arith, length-selector))))
+
+  eight_zeros : few_zeros ++ drop n (replicate 8 0) ≡ replicate 8 0
+  eight_zeros = ap (λ (t : List ℕ). t ++ drop n (replicate 8 0)) (sym (take-replicate {X = ℕ} n 8 0 h)) ∙ take-append-drop n (replicate 8 0)
+
+  selector_over : set (replicate 8 0) k x ≡ take 8 (tabulate n alone ++ replicate 8 0)
+  selector_over =
+      ap (λ (t : List ℕ). set t k x) (sym eight_zeros)
+      ∙ set-append_left few_zeros (drop n (replicate 8 0)) k x (omega (arith, length-few_zeros))
+      ∙ over_zeros selector n length-selector h
+      ∙ ap (λ (t : List ℕ). take 8 (t ++ replicate 8 0)) (sym selector_grades)
+
+  pub literal_selector : (i : ℕ) {bytes : List ℕ} → bytes ≡ record_bytes (literal i []) x → set bytes (8 + k) x ≡ record_bytes (literal i (tabulate n alone)) x
+  literal_selector i b =
+      let m : 8 + k - 8 ≡ k = omega arith in
+      ap (λ (t : List ℕ). set t (8 + k) x) b
+      ∙ set-append_right (1 ∷ i ∷ x ∷ replicate 5 0) (replicate 8 0) 8 (8 + k) x refl (omega arith)
+      ∙ ap (λ (t : List ℕ). 1 ∷ i ∷ x ∷ 0 ∷ 0 ∷ 0 ∷ 0 ∷ 0 ∷ t) (ap (λ (j : ℕ). set (replicate 8 0) j x) m ∙ selector_over)
 
 -- the greatest of a table's first grades, and of one grade alone
 pub greatest-front : (table : List ℕ) (n : ℕ) → n ≤ length table → greatest (take n table) ≡ greatest (tabulate n (at table))
-greatest-front table n h =
-    let long : length (take n table) ≡ n = length-take n table ∙ omega arith in
-    ap greatest
-    (sym (subst (λ (k : ℕ). tabulate k (at table) ≡ take n table) long (tabulate_self (at table) (take n table) (λ v l. sym (get_or-take n table v 0 (omega arith))))))
+greatest-front table n h = ap greatest (table_front table n h)
 
 pub greatest-one : (n k x : ℕ) → k < n → greatest (tabulate n (λ v. pick (eqb v k) x 0)) ≡ x
 greatest-one n k x h =

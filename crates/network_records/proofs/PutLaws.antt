@@ -1,13 +1,11 @@
 -- Records written one behind the other.
-use Prim.Native.Nat.{ℕ, ◌+◌, ◌-◌, ◌*◌, ◌/◌, ◌%◌, ◌≤◌, ◌<◌}
-use mathlib.Core.Path.{◌≡◌, refl, sym, ◌∙◌, ap, ap₂, subst}
-use mathlib.Core.Bool.{Bool, true, false}
+use Prim.Native.Nat.{ℕ, ◌+◌, ◌-◌, ◌*◌, ◌/◌, ◌%◌, ◌<◌}
+use mathlib.Core.Path.{◌≡◌, sym, ◌∙◌, ap, ap₂, subst}
 use mathlib.Core.List.{List, [], ◌∷◌, ◌++◌, append-nil}
 use native.Mathlib.Omega.{arith}
-use borrow.Author.Tests.{leb-true, leb-false}
-use lib.Dec.{leb}
 use lib.ListN.{length, replicate, length-append}
 use lib.Seq.{ext_get_or}
+use Rattle.std.specs.Int.{w16, to_le_bytes}
 use Rattle.rules.specs.declared.Gate.{Gate}
 use Rattle.rules.specs.Bytes.{at}
 use Rattle.rules.specs.Network.{Record, gate, kind_of, combine, record_ceiling, record_bytes, network_bytes_from, ceiling_at}
@@ -19,21 +17,14 @@ use Rattle.tables.specs.Part.{Laid}
 use Rattle.tables.proofs.PartLaws.{laid_as, laid-append}
 use Rattle.network_records.specs.Putting.{ceilings_to, Put}
 
--- one record, where it has room and where not
+-- one record
 pub put_one : {net : List ℕ} {r : ℕ} (x : Record) {net' : List ℕ} → Laid net (16 * r) (record_bytes x (record_ceiling (at (ceilings_to net r)) x)) 16 net' → Put net r (x ∷ []) net'
 put_one {net} {r} x l =
     record { len = l.len; bytes = λ h. laid_as (sym (append-nil (record_bytes x (record_ceiling (at (ceilings_to net r)) x)))) l }
 
-pub put-nowhere : {net : List ℕ} {r : ℕ} (x : Record) → length net < 16 * r + 16 → Put net r (x ∷ []) net
-put-nowhere x h = record { len = refl; bytes = λ room. absurd (omega arith) }
-
--- what the test for room shows
-module _ (net : List ℕ) (r : ℕ) {q : Bool} (e : q ≡ leb (16 * r + 16) (length net)) where
-  pub no_room : q ≡ false → length net < 16 * r + 16
-  no_room h = leb-false (16 * r + 16) (length net) (sym e ∙ h)
-
-  pub has_room : q ≡ true → 16 * r + 16 ≤ length net
-  has_room h = leb-true (16 * r + 16) (length net) (sym e ∙ h)
+-- a record's number as two bytes
+pub two_bytes : (n : ℕ) → n < 65536 → to_le_bytes w16 n ≡ n % 256 ∷ n / 256 ∷ []
+two_bytes n h = ap₂ (λ (low high : ℕ). low ∷ high ∷ []) (omega arith) (omega arith)
 
 -- the ceiling of a gate over two records before it, and the gate's bytes
 module _ (by : Gate) (net : List ℕ) (r left right : ℕ) (h : left < r) (g : right < r) where

@@ -4,12 +4,13 @@
 
 ghost use Rattle.std.specs.Prelude.{◌+◌, ◌*◌, ◌≤◌, ◌<◌, ◌≡◌, [], ◌∷◌, eqb, leb, length};
 ghost use Rattle.rules.specs.Bytes.{at, pick, tabulate};
-ghost use Rattle.rules.specs.Network.{constant, literal, gate, record_bytes, kind_of};
+ghost use Rattle.rules.specs.Network.{constant, literal, gate, record_bytes};
 ghost use Rattle.tables.specs.Part.{Laid};
-ghost use Rattle.network_records.specs.Grades.{Padded};
 ghost use Rattle.network_records.specs.Putting.{Put};
 
-use rules::{Gate, PLACES, RECORD, kinds};
+use rules::kinds::NetworkKind;
+use rules::{Gate, RECORD};
+use tables::grades;
 
 // Whether the buffer has room for record r.
 fn has_room(net: &[u8], r: usize) -> bool
@@ -19,14 +20,14 @@ fn has_room(net: &[u8], r: usize) -> bool
     RECORD * r + RECORD <= net.len()
 }
 
-// Sixteen bytes as record r.
-fn put(net: &mut [u8], r: usize, bytes: [u8; RECORD])
+// Sixteen bytes as record r. Written one by one: `copy_from_slice` first asks whether the two overlap, which costs more.
+fn put(net: &mut [u8], r: usize, bytes: &[u8; RECORD])
     requires { (r < 65536) × (16 * r + 16 ≤ length net.old) }
-    ensures { Laid net.old (16 * r) bytes 16 net.new }
+    ensures { Laid net.old (16 * r) bytes.now 16 net.new }
 {
-    let a = RECORD * r;
-    for j in 0..RECORD {
-        net[a + j] = bytes[j];
+    let start = RECORD * r;
+    for (j, &byte) in bytes.iter().enumerate() {
+        net[start + j] = byte;
     }
 }
 
@@ -38,19 +39,10 @@ pub fn put_constant(net: &mut [u8], r: usize, grade: u8)
         return;
     }
     let mut bytes = [0u8; RECORD];
-    bytes[0] = kinds::CONSTANT;
+    bytes[0] = u8::from(NetworkKind::Constant);
     bytes[1] = grade;
     bytes[2] = grade;
-    put(net, r, bytes);
-}
-
-fn kind(by: Gate) -> u8
-    ensures { result ≡ kind_of by }
-{
-    match by {
-        Gate::Min => kinds::MIN,
-        Gate::Max => kinds::MAX,
-    }
+    put(net, r, &bytes);
 }
 
 // The ceiling comes from byte 2 of the gate's records, which stand in the buffer wherever it has room for
@@ -63,53 +55,22 @@ pub fn put_gate(net: &mut [u8], r: usize, by: Gate, left: usize, right: usize)
         return;
     }
     let mut bytes = [0u8; RECORD];
-    bytes[0] = kind(by);
-    bytes[2] = tables::grades::combined(by, net[RECORD * left + 2], net[RECORD * right + 2]);
-    bytes[4] = (left % 256) as u8;
-    bytes[5] = (left / 256) as u8;
-    bytes[6] = (right % 256) as u8;
-    bytes[7] = (right / 256) as u8;
-    put(net, r, bytes);
+    bytes[0] = u8::from(NetworkKind::Gate(by));
+    bytes[2] = grades::combined(by, net[RECORD * left + 2], net[RECORD * right + 2]);
+    bytes[4..6].copy_from_slice(&(left as u16).to_le_bytes());
+    bytes[6..8].copy_from_slice(&(right as u16).to_le_bytes());
+    put(net, r, &bytes);
 }
 
-fn put_grades(net: &mut [u8], r: usize, condition: u8, top: u8, grades: [u8; PLACES])
-    requires { (r < 65536) × (16 * r + 16 ≤ length net.old) }
-    ensures { Laid net.old (16 * r) (record_bytes (literal condition grades) top) 16 net.new }
+// A literal's bytes before any of its grades.
+fn literal_bytes(condition: u8, top: u8) -> [u8; RECORD]
+    ensures { result ≡ record_bytes (literal condition []) top }
 {
-    put(
-        net,
-        r,
-        [
-            kinds::LITERAL,
-            condition,
-            top,
-            0,
-            0,
-            0,
-            0,
-            0,
-            grades[0],
-            grades[1],
-            grades[2],
-            grades[3],
-            grades[4],
-            grades[5],
-            grades[6],
-            grades[7],
-        ],
-    );
-}
-
-// The first `card` bytes of a table, then zeros.
-fn grades_of(table: &[u8], card: usize) -> [u8; PLACES]
-    requires { (card ≤ 8) × (card ≤ length table.now) }
-    ensures { Padded card (at table.now) result }
-{
-    let mut grades = [0u8; PLACES];
-    for v in 0..card {
-        grades[v] = table[v];
-    }
-    grades
+    let mut bytes = [0u8; RECORD];
+    bytes[0] = u8::from(NetworkKind::Literal);
+    bytes[1] = condition;
+    bytes[2] = top;
+    bytes
 }
 
 // A literal with the first `card` grades of a table.
@@ -120,8 +81,10 @@ pub fn put_literal(net: &mut [u8], r: usize, condition: u8, table: &[u8], card: 
     if !has_room(net, r) {
         return;
     }
-    let top = tables::grades::greatest(&table[..card]);
-    put_grades(net, r, condition, top, grades_of(table, card));
+    let top = grades::greatest(&table[..card]);
+    let mut bytes = literal_bytes(condition, top);
+    tables::fill::put(&mut bytes[8..8 + card], &table[..card]);
+    put(net, r, &bytes);
 }
 
 // A literal that is the top grade at value k of `card` values, and 0 elsewhere.
@@ -132,7 +95,7 @@ pub fn put_selector(net: &mut [u8], r: usize, condition: u8, card: usize, k: usi
     if !has_room(net, r) {
         return;
     }
-    let mut grades = [0u8; PLACES];
-    grades[k] = top;
-    put_grades(net, r, condition, top, grades);
+    let mut bytes = literal_bytes(condition, top);
+    bytes[8 + k] = top;
+    put(net, r, &bytes);
 }

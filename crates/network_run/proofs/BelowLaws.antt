@@ -17,8 +17,7 @@ use Rattle.laws.proofs.TableLaws.{all-at, tabulate_from_below}
 use Rattle.shape.specs.declared.Shape.{Shape}
 use Rattle.shape.specs.Shapes.{places_of, is_sound}
 use Rattle.shape.proofs.ShapeLaws.{sound-shape}
-use Rattle.network_scan.specs.Kinds.{grades_sound}
-use Rattle.network_run.proofs.ReadLaws.{last_test}
+use Rattle.network_run.proofs.ReadLaws.{grades_formed, last_test}
 
 -- a literal's byte for a value that there is
 byte-below : (k m w q : ℕ) (b : Bool) → ltb w k ≡ b → w < k → T (cond b (ltb q m) (eqb q 0)) → q < m
@@ -44,7 +43,7 @@ module _ (m : ℕ) (some : 0 < m) where
         cond_ok (λ (x : Record). record_grade v done x < m) (eqb (at r 0) 1) _ _
         (λ o.
         let t = last_test ks m k r s false true (failed (eqb (at r 0) 0) z) (passed (eqb (at r 0) 1) o) in
-        let grades = and_r (present ks (at r 1)) (grades_sound (card ks (at r 1)) m r) t in
+        let grades = and_r (present ks (at r 1)) (grades_formed ks m r) t in
         tabulate_from_below m (λ w. at r (8 + w)) 0 (card ks (at r 1)) some
         (λ w a b.
         let low : w < card ks (at r 1) = omega arith in

@@ -1,11 +1,10 @@
 -- The grades of records, from their bytes.
 use Prim.Native.Nat.{ℕ, zero, suc, ◌+◌, ◌<◌, min, max}
-use mathlib.Core.Path.{◌≡◌, refl, sym, ◌∙◌, ap, ap₂}
+use mathlib.Core.Path.{◌≡◌, refl, sym, ◌∙◌, ap}
 use mathlib.Core.Bool.{Bool, true, false, cond}
 use mathlib.Core.List.{List, [], ◌∷◌, ◌++◌}
 use native.Mathlib.Nat.{add-zero, zero-add}
 use native.Mathlib.Omega.{arith}
-use borrow.Author.Tests.{ne_eqb}
 use lib.Dec.{eqb}
 use lib.ListN.{get_or}
 use Rattle.rules.specs.Bytes.{at, word, tabulate, record_at}
@@ -14,14 +13,6 @@ use Rattle.rules.specs.Network.{constant, literal, gate, record_of, records_from
 use Rattle.rules.specs.declared.Gate.TheVariants.{Min, Max}
 use Rattle.laws.proofs.TableLaws.{at-tabulate}
 use Rattle.network_run.specs.Grades.{gate_grade, byte_grade}
-
--- a gate's grade, by its kind
-module _ (v : ℕ → ℕ) (done r : List ℕ) (left right : ℕ) (p : left ≡ word r 4) (q : right ≡ word r 6) where
-  pub byte-min : at r 0 ≡ 2 → min (at done left) (at done right) ≡ byte_grade v done r
-  byte-min e = rw e (ap₂ (λ (x y : ℕ). min (at done x) (at done y)) p q)
-
-  pub byte-max : (at r 0 ≡ 0 → ⊥) → (at r 0 ≡ 1 → ⊥) → (at r 0 ≡ 2 → ⊥) → max (at done left) (at done right) ≡ byte_grade v done r
-  byte-max a b d = rw (ne_eqb (at r 0) 0 a, ne_eqb (at r 0) 1 b, ne_eqb (at r 0) 2 d) (ap₂ (λ (x y : ℕ). max (at done x) (at done y)) p q)
 
 -- a record as the rules read it has the same grade
 choose_record : (v : ℕ → ℕ) (done : List ℕ) (z o t : Bool) (q i : ℕ) (gs : List ℕ) (left right : ℕ)

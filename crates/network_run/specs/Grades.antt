@@ -19,7 +19,6 @@ byte_grade v done r =
 
 -- a record that can be read: what it names is there
 pub record Readable (values done r : List ℕ) : Type 0 where
-  pub long : length r ≡ 16
   pub small : (i : ℕ) → at values i < 8
   pub condition : at r 0 ≡ 1 → at r 1 < 8
   pub records : 2 ≤ at r 0 → (word r 4 < length done) × (word r 6 < length done)

@@ -2,5 +2,4 @@
 pub mod LiteralLaws
 pub mod MarkLaws
 pub mod SoundLaws
-pub mod ZeroLaws
 pub mod SumLaws

@@ -7,8 +7,8 @@ use native.Mathlib.Nat.{not-suc-le-zero, le_refl}
 use native.Mathlib.Omega.{arith}
 use borrow.Author.Count.{below_more}
 use lib.Dec.{eqb}
-use lib.ListN.{length, set, replicate, length-set, get_or-replicate}
-use lib.Seq.{get_or-set_same, get_or-set_other}
+use lib.ListN.{length, set, take, replicate, length-set, length-take, get_or-replicate}
+use lib.Seq.{get_or-set_same, get_or-set_other, get_or-take}
 use Rattle.rules.specs.Bytes.{pick, at, all}
 
 pub record Marked (good : ℕ → Bool) (marks : List ℕ) (k : ℕ) : Type 0 where
@@ -51,6 +51,9 @@ module _ (good : ℕ → Bool) where
   all_marks marks (suc n) h =
       ap₂ (λ (a b : Bool). a && b) (all_marks marks n (λ j l. h j (omega arith))) (ap (λ (x : ℕ). eqb x 1) (h n (le_refl (suc n))) ∙ mark_one (good n))
 
-  -- every mark is 1 exactly when every record is good
-  pub marked_all : (marks : List ℕ) (n : ℕ) → Marked good marks n → all n (λ k. eqb (at marks k) 1) ≡ all n good
-  marked_all marks n m = all_marks marks n m.below
+  -- the first marks are all 1 exactly when the first records are all good
+  pub marked_all : (marks : List ℕ) (n : ℕ) → Marked good marks n → n ≤ 4096 → all (length (take n marks)) (λ k. eqb (at (take n marks) k) 1) ≡ all n good
+  marked_all marks n m h =
+      let long : length (take n marks) ≡ n = length-take n marks ∙ omega (arith, m.long) in
+      ap (λ (i : ℕ). all i (λ k. eqb (at (take n marks) k) 1)) long
+      ∙ all_marks (take n marks) n (λ j l. get_or-take n marks j 0 l ∙ m.below j l)

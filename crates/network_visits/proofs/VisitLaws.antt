@@ -1,5 +1,5 @@
 -- What is known of the cells while a list is visited, and the byte for each number.
-use Prim.Native.Nat.{ℕ, ◌≤◌, ◌<◌}
+use Prim.Native.Nat.{ℕ, ◌/◌, ◌≤◌, ◌<◌}
 use mathlib.Core.Path.{◌≡◌, refl, sym, ◌∙◌, ap, subst}
 use mathlib.Core.Bool.{Bool}
 use mathlib.Core.List.{List, map, ◌++◌}
@@ -9,7 +9,7 @@ use borrow.Author.Tests.{lt-ltb, le-ltb}
 use lib.Dec.{T, eqb, eqb→eq, eqb_refl}
 use lib.ListN.{length, drop, set, replicate, length-set, get_or-replicate, length-map}
 use lib.Seq.{get_or-set_same, get_or-set_other}
-use Rattle.rules.specs.Bytes.{pick, at}
+use Rattle.rules.specs.Bytes.{pick, at, Past}
 use Rattle.rules.specs.Cell.{cells}
 use Rattle.rules.specs.Network.{evaluate}
 use Rattle.rules.specs.Visits.{no_cell_byte, visit_byte}
@@ -17,6 +17,13 @@ use Rattle.laws.proofs.TableLaws.{at_map}
 use Rattle.laws.proofs.TestLaws.{by_test}
 use Rattle.tables.proofs.PartLaws.{Filled, filled_laid, laid-front}
 use Rattle.network_visits.specs.Visiting.{Known}
+
+-- the first i numbers have been visited
+pub record VisitedTo (ks net visits grades work : List ℕ) (i : ℕ) (grades' known work' : List ℕ) : Type 0 where
+  pub bytes : Filled grades 0 (λ k. visit_byte ks net (at visits k)) i grades'
+  pub knows : Known ks net known
+  pub kept : Past (length net / 16) work work'
+  pub none-keeps : length visits ≡ 0 → work' ≡ work
 
 module _ (ks net : List ℕ) where
   -- the byte for a number without a cell, and for one with

@@ -7,7 +7,8 @@ use rules::NO_CELL;
 use shape::Shape;
 
 // The byte for one number of a list: the grade at that cell, which is run if it is not known from
-// an earlier place. In what is known, the byte that no grade is stands for nothing yet.
+// an earlier place. In what is known, the byte that no grade is stands for nothing yet: an Option
+// takes two bytes, and the stack that the C header asks for has no room for 1024 of them.
 fn visit(
     network: &[u8],
     shape: Shape,
@@ -37,11 +38,10 @@ pub fn grade_each(network: &[u8], shape: Shape, cells: &[u16], grades: &mut [u8]
     ensures { VisitedEach shape network.now cells.now grades.old work.old grades.new work.new }
 {
     let count = shape.cells();
-    let visits = cells.len();
     let mut known = [NO_CELL; 1024];
-    for i in 0..visits {
-        let cell = cells[i] as usize;
-        let byte = visit(network, shape, count, cell, &mut known, work);
-        grades[i] = byte;
+    // Of what is written through an `iter_mut` in a `zip` a proof knows nothing.
+    for (i, cell) in cells.iter().enumerate() {
+        let grade = visit(network, shape, count, usize::from(*cell), &mut known, work);
+        grades[i] = grade;
     }
 }

@@ -1,7 +1,6 @@
 -- What C lends as a shape, and the number that it gets for a verdict.
-use Rattle.std.specs.Prelude.{ℕ, ◌+◌, ◌*◌, ◌≤◌, ◌<◌, ◌≡◌, cond, List, eqb, length, take, drop}
-use Rattle.rules.specs.declared.Outcome.{Outcome}
-use Rattle.rules.specs.declared.Outcome.TheVariants as outcomes
+use Rattle.std.specs.Prelude.{ℕ, ◌+◌, ◌*◌, ◌≤◌, ◌<◌, ◌≡◌, cond, List, eqb, length, take, drop, Option, Some, Result, Ok, Err}
+use Rattle.rules.specs.declared.Refusal.{Refusal}
 use Rattle.rules.specs.declared.Refusal.TheVariants.{ShapeRange}
 use Rattle.rules.specs.Bytes.{at}
 use Rattle.rules.specs.Cell.{cells}
@@ -10,13 +9,9 @@ use Rattle.rules.specs.Verdict.{Verdict, accepted, refused}
 use Rattle.rules.specs.NetworkCalls.{CheckResult, within, outside}
 use Rattle.shape.specs.declared.Shape.{Shape}
 use Rattle.shape.specs.Shapes.{shape_from, places_of}
-use Rattle.compile.specs.declared.CompileAnswer.{CompileAnswer}
-use Rattle.compile.specs.declared.CompileAnswer.TheVariants as compiles
-use Rattle.network.specs.declared.Evaluation.{Evaluation}
-use Rattle.network.specs.declared.Evaluation.TheVariants.{Grade}
+use Rattle.network.specs.declared.Outside.{Outside}
 use Rattle.network.specs.Evaluating.{evaluation_verdict}
-use Rattle.network.specs.declared.CheckAnswer.{CheckAnswer}
-use Rattle.network.specs.declared.CheckAnswer.TheVariants as checks
+use Rattle.network.specs.Checking.{result_found}
 
 -- the shape that ten bytes make: n, the eight cardinalities, m
 abbrev pub lent_shape : List ℕ → Shape
@@ -46,27 +41,27 @@ result_number within = 0
 result_number (outside cell grade) = 1 + 16 * cell + grade
 
 -- the same, of the answers that the calls of the other crates give
-abbrev pub outcome_number : Outcome → ℕ
-outcome_number outcomes.Written = 0
-outcome_number (outcomes.Refused r) = 65536 + refusal_number r
+abbrev pub reply_number : {A : Type 0} → Result A Refusal → (A → ℕ) → ℕ
+reply_number (Ok a) number = number a
+reply_number (Err r) number = 65536 + refusal_number r
 
-abbrev pub compile_number : CompileAnswer → ℕ
-compile_number (compiles.Records n) = n
-compile_number (compiles.Refused r) = 65536 + refusal_number r
+abbrev pub outcome_number : Result (Unit {0}) Refusal → ℕ
+outcome_number outcome = reply_number outcome (λ u. 0)
 
-abbrev pub check_number : CheckAnswer → ℕ
-check_number checks.Within = 0
-check_number (checks.Outside cell grade) = 1 + 16 * cell + grade
-check_number (checks.Refused r) = 65536 + refusal_number r
+abbrev pub compile_number : Result ℕ Refusal → ℕ
+compile_number answer = reply_number answer (λ n. n)
+
+abbrev pub check_number : Result (Option Outside) Refusal → ℕ
+check_number answer = reply_number answer (λ found. result_number (result_found found))
 
 -- answers whose numbers are below the refusals'
-abbrev pub FewRecords : CompileAnswer → Type 0
-FewRecords answer = (n : ℕ) → answer ≡ compiles.Records n → n ≤ 4096
+abbrev pub FewRecords : Result ℕ Refusal → Type 0
+FewRecords answer = (n : ℕ) → answer ≡ Ok n → n ≤ 4096
 
-abbrev pub FewCells : CheckAnswer → Type 0
-FewCells answer = (cell grade : ℕ) → answer ≡ checks.Outside cell grade → cell < 1024
+abbrev pub FewCells : Result (Option Outside) Refusal → Type 0
+FewCells answer = (found : Outside) → answer ≡ Ok (Some found) → found.cell < 1024
 
 -- an evaluation as C gets it; no grade reaches the refusals
-pub record Answered (evaluation : Evaluation) (r : ℕ) : Type 0 where
+pub record Answered (evaluation : Result ℕ Refusal) (r : ℕ) : Type 0 where
   pub number : r ≡ answer_number (evaluation_verdict evaluation)
-  pub below : (grade : ℕ) → evaluation ≡ Grade grade → r < 256
+  pub below : (grade : ℕ) → evaluation ≡ Ok grade → r < 256

@@ -4,7 +4,7 @@
 ghost use Rattle.panel_joins.specs.Joins.{JoinsFirst, JoinsSecond};
 
 use rules::Gate;
-use shape::{Shape, ShapeAnswer};
+use shape::Shape;
 
 pub fn first(
     gate: Gate,
@@ -19,12 +19,10 @@ pub fn first(
     ensures { JoinsFirst gate shape.now lower.now upper.now s t out_lower.old out_upper.old result out_lower.new out_upper.new }
 {
     match Shape::from_bytes(shape) {
-        ShapeAnswer::Refused(refusal) => panel_answers::of_refusal(refusal),
-        ShapeAnswer::Accepted(shape) => {
-            panel_answers::of_outcome(join::join_first(
-                shape, lower, upper, gate, s, t, out_lower, out_upper,
-            ))
-        }
+        Err(refusal) => panel_answers::of_refusal(refusal),
+        Ok(shape) => panel_answers::of_outcome(join::join_first(
+            shape, lower, upper, gate, s, t, out_lower, out_upper,
+        )),
     }
 }
 
@@ -42,11 +40,9 @@ pub fn second(
     ensures { JoinsSecond gate shape.now lower.now upper.now s t g.now out_lower.old out_upper.old result out_lower.new out_upper.new }
 {
     match Shape::from_bytes(shape) {
-        ShapeAnswer::Refused(refusal) => panel_answers::of_refusal(refusal),
-        ShapeAnswer::Accepted(shape) => {
-            panel_answers::of_outcome(join::join_second(
-                shape, lower, upper, gate, s, t, g, out_lower, out_upper,
-            ))
-        }
+        Err(refusal) => panel_answers::of_refusal(refusal),
+        Ok(shape) => panel_answers::of_outcome(join::join_second(
+            shape, lower, upper, gate, s, t, g, out_lower, out_upper,
+        )),
     }
 }

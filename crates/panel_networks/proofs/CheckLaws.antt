@@ -3,6 +3,7 @@ use Prim.Native.Nat.{ℕ, ◌+◌, ◌-◌, ◌*◌, ◌/◌, ◌%◌, ◌≤◌
 use mathlib.Core.Path.{◌≡◌, refl, sym, ap, subst, ◌∙◌}
 use mathlib.Core.List.{List}
 use native.Mathlib.Omega.{arith}
+use Rattle.std.specs.Prelude.{Option, Some, None, Result, Ok, Err}
 use Rattle.rules.specs.declared.Refusal.{Refusal}
 use Rattle.rules.specs.Refusal.{refusal_number}
 use Rattle.rules.specs.NetworkCalls.{CheckResult}
@@ -10,53 +11,47 @@ use Rattle.rules.specs.Demands.{Capped}
 use Rattle.rules.specs.Verdict.{Verdict, refused, verdict_number}
 use Rattle.shape.specs.declared.Shape.{Shape}
 use Rattle.shape.specs.Shapes.{places_of, shape_of_bytes}
-use Rattle.network.specs.declared.CheckAnswer.{CheckAnswer}
-use Rattle.network.specs.declared.CheckAnswer.TheVariants as answers
-use Rattle.network.specs.Checking.{check_verdict, check_rows, Checked}
+use Rattle.network.specs.declared.Outside as declared
+use Rattle.network.specs.Checking.{result_found, check_verdict, check_rows, Checked}
 use Rattle.network.proofs.CheckLaws.{check_capped}
 use Rattle.panel_answers.specs.Answers.{lent_shape, lent, call_number, result_number, check_number, FewCells}
 use Rattle.panel_networks.specs.Checks.{FirstOutside, Checks}
 use Rattle.laws.proofs.RefusalLaws.{small}
 use Rattle.laws.proofs.ByteLaws.{past_same}
+use Rattle.panel_answers.proofs.OutcomeLaws.{reply-verdict}
 use Rattle.panel_answers.proofs.ShapeLaws.{Made, called, lent-accepted, ten_lent, lent-refused}
 use Rattle.panel_networks.proofs.OutsideLaws.{Outside, outside-is}
 
--- the number of an answer is that of its verdict
-verdict-number : (a : CheckAnswer) → check_number a ≡ call_number (check_verdict a) result_number
-verdict-number answers.Within = refl
-verdict-number (answers.Outside cell grade) = refl
-verdict-number (answers.Refused q) = refl
-
-is_within : (a : CheckAnswer) → check_number a ≡ 0 → a ≡ answers.Within
-is_within answers.Within e = refl
-is_within (answers.Outside cell grade) e = absurd (omega arith)
-is_within (answers.Refused q) e = absurd (omega arith)
+is_within : (a : Result (Option declared.Outside) Refusal) → check_number a ≡ 0 → a ≡ (Ok None)
+is_within (Ok None) e = refl
+is_within (Ok (Some found)) e = absurd (omega arith)
+is_within (Err q) e = absurd (omega arith)
 
 -- what `check` says of a cell outside
-module _ {shape : Shape} {net lower upper work after : List ℕ} {a : CheckAnswer} (f : Checked shape net lower upper work after a) where
-  told : (cell grade : ℕ) → a ≡ answers.Outside cell grade → Outside shape net lower upper cell grade
-  told cell grade e = outside-is shape net lower upper work cell grade (sym f.answers ∙ ap check_verdict e)
+module _ {shape : Shape} {net lower upper work after : List ℕ} {a : Result (Option declared.Outside) Refusal} (f : Checked shape net lower upper work after a) where
+  told : (found : declared.Outside) → a ≡ Ok (Some found) → Outside shape net lower upper found.cell found.grade
+  told found e = outside-is shape net lower upper work found.cell found.grade (sym f.answers ∙ ap check_verdict e)
 
   pub few : FewCells a
-  few cell grade e = (told cell grade e).cell-few
+  few found e = (told found e).cell-few
 
 -- by its number an answer is a refusal, or a cell outside
 module _ (shape : Shape) (net lower upper : List ℕ) where
-  keeps : (a : CheckAnswer) (work after : List ℕ) → ((cell grade : ℕ) → a ≡ answers.Outside cell grade → Outside shape net lower upper cell grade)
-      → ((q : Refusal) → a ≡ answers.Refused q → after ≡ work) → 65536 ≤ check_number a → after ≡ work
-  keeps answers.Within work after o k h = absurd (omega arith)
-  keeps (answers.Outside cell grade) work after o k h = let x = o cell grade refl in absurd (omega (arith, x.cell-few, x.grade-few))
-  keeps (answers.Refused q) work after o k h = k q refl
+  keeps : (a : Result (Option declared.Outside) Refusal) (work after : List ℕ) → ((found : declared.Outside) → a ≡ Ok (Some found) → Outside shape net lower upper found.cell found.grade)
+      → ((q : Refusal) → a ≡ Err q → after ≡ work) → 65536 ≤ check_number a → after ≡ work
+  keeps (Ok None) work after o k h = absurd (omega arith)
+  keeps (Ok (Some found)) work after o k h = let x = o found refl in absurd (omega (arith, x.cell-few, x.grade-few))
+  keeps (Err q) work after o k h = k q refl
 
-  is-outside : (a : CheckAnswer) → ((cell grade : ℕ) → a ≡ answers.Outside cell grade → Outside shape net lower upper cell grade) → 1 ≤ check_number a → check_number a < 65536
+  is-outside : (a : Result (Option declared.Outside) Refusal) → ((found : declared.Outside) → a ≡ Ok (Some found) → Outside shape net lower upper found.cell found.grade) → 1 ≤ check_number a → check_number a < 65536
       → FirstOutside shape net lower upper ((check_number a - 1) / 16) ((check_number a - 1) % 16)
-  is-outside answers.Within o low high = absurd (omega arith)
-  is-outside (answers.Outside cell grade) o low high =
-      let x = o cell grade refl in
-      let at-cell : cell ≡ (1 + 16 * cell + grade - 1) / 16 = omega (arith, x.grade-few) in
-      let at-grade : grade ≡ (1 + 16 * cell + grade - 1) % 16 = omega (arith, x.grade-few) in
-      subst (λ (g : ℕ). FirstOutside shape net lower upper ((1 + 16 * cell + grade - 1) / 16) g) at-grade (subst (λ (c : ℕ). FirstOutside shape net lower upper c grade) at-cell x.is)
-  is-outside (answers.Refused q) o low high = absurd (omega arith)
+  is-outside (Ok None) o low high = absurd (omega arith)
+  is-outside (Ok (Some found)) o low high =
+      let x = o found refl in
+      let at-cell : found.cell ≡ (1 + 16 * found.cell + found.grade - 1) / 16 = omega (arith, x.grade-few) in
+      let at-grade : found.grade ≡ (1 + 16 * found.cell + found.grade - 1) % 16 = omega (arith, x.grade-few) in
+      subst (λ (g : ℕ). FirstOutside shape net lower upper ((1 + 16 * found.cell + found.grade - 1) / 16) g) at-grade (subst (λ (c : ℕ). FirstOutside shape net lower upper c found.grade) at-cell x.is)
+  is-outside (Err q) o low high = absurd (omega arith)
 
 module _ (net bytes lower upper work : List ℕ) (r : ℕ) where
   abbrev rows : Shape → Verdict CheckResult
@@ -67,15 +62,15 @@ module _ (net bytes lower upper work : List ℕ) (r : ℕ) where
       let v = called (lent bytes rows) result_number (omega arith) in
       check_capped (lent_shape bytes) net lower upper work v.0 (lent-accepted bytes rows v.1).1
 
-  pub checks : (x : Shape) (a : CheckAnswer) (after : List ℕ) → Made bytes x → Checked x net lower upper work after a → r ≡ check_number a → Checks net bytes lower upper work r after
+  pub checks : (x : Shape) (a : Result (Option declared.Outside) Refusal) (after : List ℕ) → Made bytes x → Checked x net lower upper work after a → r ≡ check_number a → Checks net bytes lower upper work r after
   checks x a after made found number =
       let f : Checked (lent_shape bytes) net lower upper work after a = subst (λ (y : Shape). Checked y net lower upper work after a) made.same found in
       let same : rows (lent_shape bytes) ≡ lent bytes rows = sym (ten_lent bytes rows made.ten) in
       record {
-        answer = number ∙ verdict-number a ∙ ap (λ (v : Verdict CheckResult). call_number v result_number) (f.answers ∙ same);
+        answer = number ∙ reply-verdict result_found result_number a ∙ ap (λ (v : Verdict CheckResult). call_number v result_number) (f.answers ∙ same);
         within-means = λ e. let w = f.within-means (is_within a (sym number ∙ e)) in (sym (ap verdict_number same) ∙ w.0, w.1);
         within_when = λ z h. number ∙ ap check_number (f.within_when (ap verdict_number same ∙ z) h);
-        capped = λ h. capped (number ∙ verdict-number a ∙ ap (λ (v : Verdict CheckResult). call_number v result_number) (f.answers ∙ same)) h;
+        capped = λ h. capped (number ∙ reply-verdict result_found result_number a ∙ ap (λ (v : Verdict CheckResult). call_number v result_number) (f.answers ∙ same)) h;
         outside-means = λ low high.
             subst (λ (n : ℕ). FirstOutside (lent_shape bytes) net lower upper ((n - 1) / 16) ((n - 1) % 16)) (sym number)
             (is-outside (lent_shape bytes) net lower upper a (told f) (omega arith) (omega arith));

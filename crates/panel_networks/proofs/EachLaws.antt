@@ -6,8 +6,7 @@ use mathlib.Core.List.{List}
 use native.Mathlib.Omega.{arith}
 use lib.Dec.{eqb}
 use lib.ListN.{length}
-use Rattle.rules.specs.declared.Outcome.{Outcome}
-use Rattle.rules.specs.declared.Outcome.TheVariants.{Written, Refused}
+use Rattle.std.specs.Prelude.{Result, Ok, Err}
 use Rattle.rules.specs.declared.Refusal.{Refusal}
 use Rattle.rules.specs.declared.Refusal.TheVariants.{ShapeRange}
 use Rattle.rules.specs.Bytes.{at, Past}
@@ -23,14 +22,14 @@ use Rattle.network.specs.EvaluatingEach.{grades_after, each_rows, EvaluatedEach}
 use Rattle.network.proofs.EachLaws.{each-grade, each-capped, each-single, stops-single}
 use Rattle.panel_answers.specs.Answers.{lent_shape, lent, call_number, answer_number, outcome_number}
 use Rattle.panel_answers.proofs.ShapeLaws.{Made, called, lent-accepted, ten_lent, made_lent, lent-refused}
-use Rattle.panel_answers.proofs.OutcomeLaws.{outcome_number_lem}
+use Rattle.panel_answers.proofs.OutcomeLaws.{reply_number_lem}
 use Rattle.panel_networks.specs.Evaluates.{evaluate_rows}
 use Rattle.panel_networks.specs.EvaluatesEach.{EvaluatesEach}
 
 -- by its number an answer, and a verdict, is a refusal
-keeps : (a : Outcome) (work work' : List ℕ) → ((q : Refusal) → a ≡ Refused q → work' ≡ work) → 65536 ≤ outcome_number a → work' ≡ work
-keeps Written work work' k h = absurd (omega arith)
-keeps (Refused q) work work' k h = k q refl
+keeps : (a : Result (Unit {0}) Refusal) (work work' : List ℕ) → ((q : Refusal) → a ≡ Err q → work' ≡ work) → 65536 ≤ outcome_number a → work' ≡ work
+keeps (Ok u) work work' k h = absurd (omega arith)
+keeps (Err q) work work' k h = k q refl
 
 stopped : (v : Verdict (List ℕ)) → 65536 ≤ call_number v (λ written. 0) → (q : Refusal) × (v ≡ refused q)
 stopped (accepted bytes) h = absurd (omega arith)
@@ -82,11 +81,11 @@ module _ (net bytes visits grades work : List ℕ) where
           kept = kept;
         }
 
-  pub evaluates_each : (x : Shape) (a : Outcome) (r : ℕ) (grades' work' : List ℕ) → Made bytes x → EvaluatedEach x net visits grades work a grades' work' → r ≡ outcome_number a
+  pub evaluates_each : (x : Shape) (a : Result (Unit {0}) Refusal) (r : ℕ) (grades' work' : List ℕ) → Made bytes x → EvaluatedEach x net visits grades work a grades' work' → r ≡ outcome_number a
       → EvaluatesEach net bytes visits grades work r grades' work'
   evaluates_each x a r grades' work' made found number =
       let same : rows x ≡ lent bytes rows = made_lent bytes rows made in
-      promised (number ∙ ap outcome_number found.answer ∙ outcome_number_lem (rows x) ∙ ap (λ (v : Verdict (List ℕ)). call_number v (λ written. 0)) same)
+      promised (number ∙ ap outcome_number found.answer ∙ reply_number_lem (λ written. tt) (λ u. 0) (rows x) ∙ ap (λ (v : Verdict (List ℕ)). call_number v (λ written. 0)) same)
       (found.grades-after ∙ ap (λ (v : Verdict (List ℕ)). grades_after v grades) same)
       (λ h. keeps a work work' found.refusal_keeps (omega arith)) found.none-keeps found.kept
 

@@ -4,31 +4,30 @@ use mathlib.Core.Path.{◌≡◌, refl, sym, ap, subst, ◌∙◌}
 use mathlib.Core.List.{List}
 use native.Mathlib.Omega.{arith}
 use lib.ListN.{length}
+use Rattle.std.specs.Prelude.{Result, Ok, Err}
 use Rattle.rules.specs.declared.Refusal.{Refusal}
 use Rattle.rules.specs.Verdict.{refused}
 use Rattle.rules.specs.Demands.{Capped}
 use Rattle.laws.proofs.ByteLaws.{past_same}
 use Rattle.shape.specs.declared.Shape.{Shape}
 use Rattle.shape.specs.Shapes.{places_of, shape_of_bytes}
-use Rattle.network.specs.declared.Evaluation.{Evaluation}
-use Rattle.network.specs.declared.Evaluation.TheVariants.{Grade, Refused}
 use Rattle.network.specs.Evaluating.{Evaluated, GradeAt}
 use Rattle.panel_networks.specs.Evaluates.{evaluate_rows, Evaluates}
 use Rattle.panel_answers.specs.Answers.{answer_number, Answered}
 use Rattle.panel_answers.proofs.ShapeLaws.{Made, made_lent, lent-refused}
 
 -- an answer of 256 or more is a refusal
-keeps : (work after : List ℕ) (e : Evaluation) (r : ℕ) → ((q : Refusal) → e ≡ Refused q → after ≡ work) → ((grade : ℕ) → e ≡ Grade grade → r < 256) → 256 ≤ r → after ≡ work
-keeps work after (Grade grade) r k b h = absurd (omega (arith, b grade refl))
-keeps work after (Refused q) r k b h = k q refl
+keeps : (work after : List ℕ) (e : Result ℕ Refusal) (r : ℕ) → ((q : Refusal) → e ≡ Err q → after ≡ work) → ((grade : ℕ) → e ≡ Ok grade → r < 256) → 256 ≤ r → after ≡ work
+keeps work after (Ok grade) r k b h = absurd (omega (arith, b grade refl))
+keeps work after (Err q) r k b h = k q refl
 
 -- and one below 256 a grade
-means : {P : ℕ → Type 0} (e : Evaluation) (r : ℕ) → ((q : ℕ) → e ≡ Grade q → P q) → Answered e r → r < 256 → P r
-means {P} (Grade q) r f a h = subst P (sym a.number) (f q refl)
-means (Refused q) r f a h = absurd (omega (arith, a.number))
+means : {P : ℕ → Type 0} (e : Result ℕ Refusal) (r : ℕ) → ((q : ℕ) → e ≡ Ok q → P q) → Answered e r → r < 256 → P r
+means {P} (Ok q) r f a h = subst P (sym a.number) (f q refl)
+means (Err q) r f a h = absurd (omega (arith, a.number))
 
 module _ (net bytes : List ℕ) (cell : ℕ) (work : List ℕ) where
-  pub evaluates : (s : Shape) (e : Evaluation) (after : List ℕ) (r : ℕ) → Made bytes s → Evaluated s net cell work after e → Answered e r → Evaluates net bytes cell work after r
+  pub evaluates : (s : Shape) (e : Result ℕ Refusal) (after : List ℕ) (r : ℕ) → Made bytes s → Evaluated s net cell work after e → Answered e r → Evaluates net bytes cell work after r
   evaluates s e after r made found answered =
       record {
         answer = answered.number ∙ ap answer_number (found.answers ∙ made_lent bytes (evaluate_rows net (length work) cell) made);
@@ -38,7 +37,7 @@ module _ (net bytes : List ℕ) (cell : ℕ) (work : List ℕ) where
         kept = found.kept;
       }
 
-  pub refuses : (q : Refusal) (r : ℕ) → shape_of_bytes bytes ≡ refused q → Answered (Refused q) r → Evaluates net bytes cell work work r
+  pub refuses : (q : Refusal) (r : ℕ) → shape_of_bytes bytes ≡ refused q → Answered (Err q) r → Evaluates net bytes cell work work r
   refuses q r p answered =
       record {
         answer = answered.number ∙ ap answer_number (sym (lent-refused bytes p (evaluate_rows net (length work) cell) (λ s e. rw e)));

@@ -1,10 +1,11 @@
 -- The promise of `grades_forecast`, from what the parts of the call answer.
 use Prim.Native.Nat.{ℕ, ◌+◌, ◌≤◌, ◌<◌}
 use mathlib.Core.Path.{◌≡◌, refl, sym, ap, subst, ◌∙◌}
-use mathlib.Core.List.{List, [], ◌∷◌}
+use mathlib.Core.List.{List}
 use native.Mathlib.Omega.{arith}
 use borrow.Author.Tests.{le-leb, lt-leb}
-use lib.ListN.{length, set, drop}
+use lib.ListN.{length}
+use Rattle.std.specs.Prelude.{Result, Ok, Err}
 use Rattle.rules.specs.declared.Refusal.{Refusal}
 use Rattle.rules.specs.declared.Refusal.TheVariants.{ShapeRange, ShortBuffer}
 use Rattle.rules.specs.declared.Settings.{Settings}
@@ -16,28 +17,21 @@ use Rattle.rules.specs.Demands.{compiled_records}
 use Rattle.rules.specs.CompileCall.{lent_limits}
 use Rattle.rules.specs.Forecast.{Forecast, network_depth}
 use Rattle.laws.proofs.ByteLaws.{past_same}
-use Rattle.laws.proofs.VerdictLaws.{row_pass, row_stop}
+use Rattle.laws.proofs.VerdictLaws.{row_pass, row_stop, was_err}
 use Rattle.shape.specs.declared.Shape.{Shape}
 use Rattle.shape.specs.Shapes.{cards_of, places_of, shape_of_bytes}
-use Rattle.compile.specs.declared.ForecastAnswer.{ForecastAnswer}
-use Rattle.compile.specs.declared.ForecastAnswer.TheVariants.{Figures, Refused}
+use Rattle.compile.specs.declared.Figures.{Figures}
 use Rattle.compile.specs.Compiling.{written, compile_rows}
 use Rattle.compile.specs.Forecasting as forecasting
-use Rattle.compile.specs.Forecasting.{forecast_rows}
+use Rattle.compile.specs.Forecasting.{figures_of, forecast_rows}
 use Rattle.compile.proofs.CountLaws.{accepted-records}
-use Rattle.compile.proofs.ForecastLaws.{was_told, was_not_told, told_figures}
+use Rattle.compile.proofs.ForecastLaws.{was_told, told_figures}
 use Rattle.panel_answers.specs.Answers.{lent_shape, lent, call_number}
 use Rattle.panel_answers.proofs.ShapeLaws.{Made, called, lent-accepted, ten_lent, lent-refused}
 use Rattle.panel_networks.specs.Compiles.{Compiles}
 use Rattle.panel_networks.specs.Forecasts.{depth_rows, with_word, depth_after, Forecasts}
 
--- a number laid as two bytes
-pub put_two : (b : List ℕ) (x y : ℕ) → 2 ≤ length b → set (set b 0 x) 1 y ≡ x ∷ y ∷ drop 2 b
-put_two [] x y h = absurd (omega arith)
-put_two (a ∷ []) x y h = absurd (omega arith)
-put_two (a ∷ b ∷ l) x y h = refl
-
--- and read from them
+-- a number read from its two bytes
 word_back : (n : ℕ) (buffer : List ℕ) → word (with_word n buffer) 0 ≡ n
 word_back n buffer = omega arith
 
@@ -84,29 +78,29 @@ module _ (how : Settings) (bytes lower upper : List ℕ) where
       pub short-refuses : length depth < 2 → r ≡ 65536 + refusal_number ShortBuffer → Forecasts how bytes lower upper work depth r work depth
       short-refuses h = refuses_by (ten_lent bytes rows made.ten ∙ row_pass ShapeRange _ made.sound ∙ row_stop ShortBuffer _ (lt-leb 2 (length depth) h))
 
-      module _ (long : 2 ≤ length depth) {a : ForecastAnswer} {work' : List ℕ} (found : forecasting.Forecasts how x lower upper work a work') where
+      module _ (long : 2 ≤ length depth) {a : Result Figures Refusal} {work' : List ℕ} (found : forecasting.Forecasts how x lower upper work a work') where
         same_rows : lent bytes rows ≡ forecast_rows how shape lower upper work
         same_rows = ten_lent bytes rows made.ten ∙ row_pass ShapeRange _ made.sound ∙ row_pass ShortBuffer _ (le-leb 2 (length depth) long)
 
         here : forecasting.Forecasts how shape lower upper work a work'
         here = subst (λ (y : Shape). forecasting.Forecasts how y lower upper work a work') made.same found
 
-        pub told_refuses : (q : Refusal) → a ≡ Refused q → r ≡ 65536 + refusal_number q → Forecasts how bytes lower upper work depth r work' depth
+        pub told_refuses : (q : Refusal) → a ≡ Err q → r ≡ 65536 + refusal_number q → Forecasts how bytes lower upper work depth r work' depth
         told_refuses q e number =
             subst (λ (w : List ℕ). Forecasts how bytes lower upper work depth r w depth) (sym (here.refusal_keeps q e))
-            (refuses_by (same_rows ∙ was_not_told (forecast_rows how shape lower upper work) (sym e ∙ here.answers)) number)
+            (refuses_by (same_rows ∙ was_err figures_of (forecast_rows how shape lower upper work) (sym e ∙ here.answers)) number)
 
-        module _ (n d : ℕ) (e : a ≡ Figures n d) where
-          pub few : (n ≤ 3067) × (d < n)
-          few = let t = told_figures here n d e in (t.few, t.below)
+        module _ (g : Figures) (e : a ≡ Ok g) where
+          pub few : (g.records ≤ 3067) × (g.depth < g.records)
+          few = let t = told_figures here g e in (t.few, t.below)
 
           -- the two figures
-          pub tells : {depth' : List ℕ} → depth' ≡ with_word d depth → r ≡ n → Forecasts how bytes lower upper work depth r work' depth'
+          pub tells : {depth' : List ℕ} → depth' ≡ with_word g.depth depth → r ≡ g.records → Forecasts how bytes lower upper work depth r work' depth'
           tells {depth'} put number =
-              let t = told_figures here n d e in
+              let t = told_figures here g e in
               let v = was_told (forecast_rows how shape lower upper work) (sym e ∙ here.answers) in
               let verdict : lent bytes rows ≡ accepted v.0 = same_rows ∙ v.1 in
-              let levels : word depth' 0 ≡ d = ap (λ (b : List ℕ). word b 0) put ∙ word_back d depth in
+              let levels : word depth' 0 ≡ g.depth = ap (λ (b : List ℕ). word b 0) put ∙ word_back g.depth depth in
               record {
                 answer = number ∙ v.2 ∙ sym (ap (λ (v : Verdict Forecast). call_number v (λ f. f.count)) verdict);
                 depth-after = put ∙ ap (λ (k : ℕ). with_word k depth) v.3 ∙ sym (ap (λ (v : Verdict Forecast). depth_after v depth) verdict);

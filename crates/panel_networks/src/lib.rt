@@ -4,26 +4,28 @@
 
 ghost use Rattle.std.specs.Prelude.{◌≤◌, ◌<◌, ◌≡◌, length};
 ghost use Rattle.rules.specs.Settings.{usual, settings_of};
+ghost use Rattle.panel_answers.specs.Answers.{compile_number, FewRecords};
 ghost use Rattle.panel_networks.specs.Compiles.{Compiles};
 ghost use Rattle.panel_networks.specs.Forecasts.{with_word, Forecasts};
 ghost use Rattle.panel_networks.specs.Checks.{Checks};
 ghost use Rattle.panel_networks.specs.Evaluates.{Evaluates};
 ghost use Rattle.panel_networks.specs.EvaluatesEach.{EvaluatesEach};
 
-use compile::ForecastAnswer;
-use network::Evaluation;
 use rules::Refusal;
-use shape::{Shape, ShapeAnswer};
+use shape::Shape;
+
+// The bytes that the depth's buffer needs.
+const WORD: usize = 2;
 
 // The grade of a network at a cell. The work buffer has a byte for each record.
 pub fn evaluate(network: &[u8], shape: &[u8], work: &mut [u8], cell: u32) -> u32
     ensures { Evaluates network.now shape.now cell work.old work.new result }
 {
     match Shape::from_bytes(shape) {
-        ShapeAnswer::Accepted(shape) => {
+        Ok(shape) => {
             panel_answers::of_evaluation(network::evaluate(network, shape, work, cell as usize))
         }
-        ShapeAnswer::Refused(refusal) => panel_answers::of_evaluation(Evaluation::Refused(refusal)),
+        Err(refusal) => panel_answers::of_evaluation(Err(refusal)),
     }
 }
 
@@ -39,8 +41,8 @@ pub fn evaluate_each(
     ensures { EvaluatesEach network.now shape.now cells.now grades.old work.old result grades.new work.new }
 {
     match Shape::from_bytes(shape) {
-        ShapeAnswer::Refused(refusal) => panel_answers::of_refusal(refusal),
-        ShapeAnswer::Accepted(shape) => {
+        Err(refusal) => panel_answers::of_refusal(refusal),
+        Ok(shape) => {
             panel_answers::of_outcome(network::evaluate_each(network, shape, cells, grades, work))
         }
     }
@@ -59,8 +61,8 @@ pub fn compile_with(
     ensures { Compiles (settings_of settings) shape.now lower.now upper.now work.old network.old result work.new network.new }
 {
     match Shape::from_bytes(shape) {
-        ShapeAnswer::Refused(refusal) => panel_answers::of_refusal(refusal),
-        ShapeAnswer::Accepted(shape) => {
+        Err(refusal) => panel_answers::of_refusal(refusal),
+        Ok(shape) => {
             panel_answers::of_compile(compile::compile_with(
                 shape,
                 lower,
@@ -85,8 +87,7 @@ fn put_word(buffer: &mut [u8], n: usize)
     requires { (n < 65536) × (2 ≤ length buffer.old) }
     ensures { buffer.new ≡ with_word n buffer.old }
 {
-    buffer[0] = (n % 256) as u8;
-    buffer[1] = (n / 256) as u8;
+    buffer[..WORD].copy_from_slice(&(n as u16).to_le_bytes());
 }
 
 // What the network of a table will have, grown under settings: how many records, and in two bytes, low first, the
@@ -101,25 +102,29 @@ pub fn forecast_with(
 ) -> u32
     ensures { Forecasts (settings_of settings) shape.now lower.now upper.now work.old depth.old result work.new depth.new }
 {
-    match Shape::from_bytes(shape) {
-        ShapeAnswer::Refused(refusal) => panel_answers::of_refusal(refusal),
-        ShapeAnswer::Accepted(shape) => {
-            if depth.len() < 2 {
-                return panel_answers::of_refusal(Refusal::ShortBuffer);
-            }
-            let how = settings::of_byte(settings);
-            match compile::forecast_with(shape, lower, upper, how, work) {
-                ForecastAnswer::Refused(refusal) => panel_answers::of_refusal(refusal),
-                ForecastAnswer::Figures {
-                    records,
-                    depth: levels,
-                } => {
-                    put_word(depth, levels);
-                    records as u32
-                }
-            }
-        }
+    panel_answers::of_compile(forecast_lent(shape, lower, upper, settings, work, depth))
+}
+
+// The same, before its answer is a number.
+fn forecast_lent(
+    shape: &[u8],
+    lower: &[u8],
+    upper: &[u8],
+    settings: u8,
+    work: &mut [u8],
+    depth: &mut [u8],
+) -> Result<usize, Refusal>
+    ensures few { FewRecords result }
+    ensures foretold { Forecasts (settings_of settings) shape.now lower.now upper.now work.old depth.old (compile_number result) work.new depth.new }
+{
+    let shape = Shape::from_bytes(shape)?;
+    if depth.len() < WORD {
+        return Err(Refusal::ShortBuffer);
     }
+    let how = settings::of_byte(settings);
+    let told = compile::forecast_with(shape, lower, upper, how, work)?;
+    put_word(depth, told.depth);
+    Ok(told.records)
 }
 
 // The same under the usual settings.
@@ -135,9 +140,7 @@ pub fn check(network: &[u8], shape: &[u8], lower: &[u8], upper: &[u8], work: &mu
     ensures { Checks network.now shape.now lower.now upper.now work.old result work.new }
 {
     match Shape::from_bytes(shape) {
-        ShapeAnswer::Refused(refusal) => panel_answers::of_refusal(refusal),
-        ShapeAnswer::Accepted(shape) => {
-            panel_answers::of_check(network::check(network, shape, lower, upper, work))
-        }
+        Err(refusal) => panel_answers::of_refusal(refusal),
+        Ok(shape) => panel_answers::of_check(network::check(network, shape, lower, upper, work)),
     }
 }

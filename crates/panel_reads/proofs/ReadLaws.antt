@@ -4,7 +4,8 @@ use mathlib.Core.Path.{◌≡◌, refl, sym, ap, ◌∙◌}
 use mathlib.Core.Bool.{Bool, true, false}
 use mathlib.Core.List.{List, ◌++◌}
 use borrow.Author.Tests.{le-leb, lt-leb}
-use lib.ListN.{length, take, drop}
+use lib.ListN.{length, drop}
+use Rattle.std.specs.Prelude.{Result, Ok, Err}
 use Rattle.rules.specs.declared.Edition.TheVariants.{Ours}
 use Rattle.rules.specs.declared.Refusal.{Refusal}
 use Rattle.rules.specs.declared.Refusal.TheVariants.{ShortBuffer}
@@ -12,14 +13,11 @@ use Rattle.rules.specs.Refusal.{refusal_number}
 use Rattle.rules.specs.Limits.{limits_of}
 use Rattle.rules.specs.Verdict.{Verdict, accepted, refused, unless, and_then}
 use Rattle.rules.specs.TableFile.{Seen, judge_file, judge_reading, AsListed}
-use Rattle.laws.proofs.VerdictLaws.{refused-accepted}
+use Rattle.laws.proofs.VerdictLaws.{refused-accepted, was_err}
 use Rattle.shape.specs.declared.Shape.{Shape}
 use Rattle.shape.specs.Shapes.{shape_bytes}
-use Rattle.table_file.specs.declared.TableAnswer.{TableAnswer}
-use Rattle.table_file.specs.declared.TableAnswer.TheVariants.{Table, Refused}
-use Rattle.tables.specs.Part.{part}
-use Rattle.table_file.specs.Reading.{lower_after, upper_after, Read}
-use Rattle.table_file.proofs.ReadLaws.{was_table, was_refused, fits}
+use Rattle.table_file.specs.Reading.{shape_of, lower_after, upper_after, Read}
+use Rattle.table_file.proofs.ReadLaws.{was_table, fits}
 use Rattle.panel_answers.specs.Answers.{call_number}
 use Rattle.panel_reads.specs.Reads.{read_verdict, no_room, shape_after, Reads}
 
@@ -47,11 +45,6 @@ stopped (refused q) = (q, refl)
 -- its number, by the verdict on the file
 pub short-number : (file : List ℕ) (v : Verdict Seen) → v ≡ judge_file Ours file → call_number (and_then v short) (λ s. 0) ≡ call_number (no_room file) (λ s. 0)
 short-number file v e = ap (λ (w : Verdict Seen). call_number (and_then w short) (λ s. 0)) e
-
--- the ten bytes that are put before the others
-pub ten_bytes : (x : Shape) (bytes to : List ℕ) → bytes ≡ shape_bytes x → part bytes 0 10 ++ drop 10 to ≡ shape_bytes x ++ drop 10 to
-unfolding part
-ten_bytes x bytes to e = ap (λ (l : List ℕ). take 10 l ++ drop 10 to) e
 
 module _ (file shape lower upper : List ℕ) where
   abbrev judged : Verdict Seen
@@ -87,15 +80,15 @@ module _ (file shape lower upper : List ℕ) where
     same : verdict ≡ judged
     same = ap (λ (b : Bool). and_then judged (λ s. unless b ShortBuffer (accepted s))) (le-leb 10 (length shape) room) ∙ passes_on judged
 
-    pub read_refuses : (t : TableAnswer) (q : Refusal) (r : ℕ) (lower' upper' : List ℕ) → t ≡ Refused q → Read file lower upper t lower' upper' → r ≡ 65536 + refusal_number q → Reads file shape lower upper r shape lower' upper'
+    pub read_refuses : (t : Result Shape Refusal) (q : Refusal) (r : ℕ) (lower' upper' : List ℕ) → t ≡ Err q → Read file lower upper t lower' upper' → r ≡ 65536 + refusal_number q → Reads file shape lower upper r shape lower' upper'
     read_refuses t q r lower' upper' e read number =
-        let was : judged ≡ refused q = was_refused judged (sym e ∙ read.answer) in
+        let was : judged ≡ refused q = was_err shape_of judged (sym e ∙ read.answer) in
         by_verdict judged r shape lower' upper' same
         (number ∙ sym (ap (λ (v : Verdict Seen). call_number v (λ s. 0)) was))
         (sym (ap (λ (v : Verdict Seen). shape_after v shape) was))
         read.lower-after read.upper-after read.as_listed
 
-    pub reads : (t : TableAnswer) (x : Shape) (shape' lower' upper' : List ℕ) → t ≡ Table x → Read file lower upper t lower' upper' → shape' ≡ shape_bytes x ++ drop 10 shape → Reads file shape lower upper 0 shape' lower' upper'
+    pub reads : (t : Result Shape Refusal) (x : Shape) (shape' lower' upper' : List ℕ) → t ≡ Ok x → Read file lower upper t lower' upper' → shape' ≡ shape_bytes x ++ drop 10 shape → Reads file shape lower upper 0 shape' lower' upper'
     reads t x shape' lower' upper' e read put =
         let was = was_table judged (sym e ∙ read.answer) in
         by_verdict judged 0 shape' lower' upper' same

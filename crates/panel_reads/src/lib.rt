@@ -8,17 +8,14 @@ ghost use Rattle.panel_reads.specs.Reads.{no_room, Reads};
 
 use rules::{Edition, Refusal};
 use shape::Shape;
-use table_file::TableAnswer;
-use table_records::Judged;
-use tables::fill;
 
 // The file's own refusal, and if it has none that of the short buffer.
 fn no_room(file: &[u8]) -> u32
     ensures { result ≡ call_number (no_room file.now) (λ s. 0) }
 {
     match table_file::judge(file, Edition::Ours) {
-        Judged::Refused(refusal) => panel_answers::of_refusal(refusal),
-        Judged::Accepted(_) => panel_answers::of_refusal(Refusal::ShortBuffer),
+        Err(refusal) => panel_answers::of_refusal(refusal),
+        Ok(_) => panel_answers::of_refusal(Refusal::ShortBuffer),
     }
 }
 
@@ -27,8 +24,7 @@ fn put_shape(shape: Shape, to: &mut [u8])
     requires { 10 ≤ length to.old }
     ensures { to.new ≡ shape_bytes shape ++ drop 10 to.old }
 {
-    let bytes = shape.to_bytes();
-    fill::unload(&bytes, 0, to, Shape::BYTES);
+    to[..Shape::BYTES].copy_from_slice(&shape.to_bytes());
 }
 
 // The table that a file holds: its shape's ten bytes, and its limits, or the number of a refusal.
@@ -39,8 +35,8 @@ pub fn read(file: &[u8], shape: &mut [u8], lower: &mut [u8], upper: &mut [u8]) -
         return no_room(file);
     }
     match table_file::read_table(file, lower, upper) {
-        TableAnswer::Refused(refusal) => panel_answers::of_refusal(refusal),
-        TableAnswer::Table(table) => {
+        Err(refusal) => panel_answers::of_refusal(refusal),
+        Ok(table) => {
             put_shape(table, shape);
             0
         }

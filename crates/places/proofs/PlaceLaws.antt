@@ -1,54 +1,60 @@
--- What the loops over sets and over places find.
-use Prim.Native.Nat.{ℕ, zero, suc, ◌+◌, ◌-◌, ◌/◌, ◌%◌, ◌≤◌, ◌<◌}
-use mathlib.Core.Path.{◌≡◌, sym, ◌∙◌, ap}
+-- Sets and places.
+use Prim.Native.Nat.{ℕ, zero, suc, ◌+◌, ◌*◌, ◌/◌, ◌%◌, ◌^◌, ◌≤◌, ◌<◌}
+use mathlib.Core.Path.{◌≡◌, refl, sym, ◌∙◌, ap, subst}
 use mathlib.Core.Bool.{true, false}
-use mathlib.Core.List.{List, [], ◌∷◌}
-use native.Mathlib.Nat.{add_assoc, le_refl, mod-lt}
+use mathlib.Core.List.{List}
+use native.Mathlib.Nat.{zero-add, zero-mul, pow-suc, le_refl, mod-lt}
 use native.Mathlib.Omega.{arith}
 use borrow.Author.Count.{below_more}
+use lib.Bits.{bit_or, bit_and, or_disjoint}
+use lib.Count.{ones, ones_step}
 use lib.Dec.{T, eqb, eqb→eq}
-use lib.ListN.{length, get_or, set, length-set}
+use lib.ListN.{length, set, length-set}
 use lib.Seq.{get_or-set_same, get_or-set_other, ext_get_or}
-use Rattle.rules.specs.Bytes.{pick, at}
+use Rattle.std.specs.Int.{bit_at}
+use Rattle.std.proofs.lemmas.Nat.Bits.{and_pow}
+use Rattle.rules.specs.Bytes.{pick}
 use Rattle.rules.specs.Cell.{card, has, insert, singleton, without}
 use Rattle.rules.specs.Stage.{members}
-use Rattle.laws.proofs.CellLaws.{div_below, length_without}
+use Rattle.laws.proofs.CellLaws.{length_without}
 use Rattle.laws.proofs.LoopLaws.{bit, insert-bit, without-card}
+use Rattle.laws.proofs.NumberLaws.{has-bit}
 use Rattle.laws.proofs.SetLaws.{has-none}
 use Rattle.laws.proofs.TableLaws.{all-at}
-use Rattle.laws.proofs.UnionLaws.{digit-below}
 
--- the table of bits
-abbrev pub bits : List ℕ
-bits = 1 ∷ 2 ∷ 4 ∷ 8 ∷ 16 ∷ 32 ∷ 64 ∷ 128 ∷ []
+-- the set of one condition
+pub shift-singleton : (i : ℕ) → i < 8 → 1 * 2 ^ i % 256 ≡ singleton i
+shift-singleton i h = eqb→eq (1 * 2 ^ i % 256) (singleton i) (all-at 8 (λ i. eqb (1 * 2 ^ i % 256) (singleton i)) tt i h)
 
-bits_at : (i : ℕ) → i < 8 → get_or bits i 0 ≡ bit i
-bits_at i h = eqb→eq (at bits i) (bit i) (all-at 8 (λ i. eqb (at bits i) (bit i)) tt i h)
+bit-power : (i : ℕ) → bit i ≡ 2 ^ i
+bit-power zero = refl
+bit-power (suc i) = omega (arith, bit-power i, pow-suc 2 i)
 
-pub bits-insert : (s i : ℕ) → i < 8 → (T (has s i) → ⊥) → s + get_or bits i 0 ≡ insert s i
-bits-insert s i h n = ap (λ (x : ℕ). s + x) (bits_at i h) ∙ sym (insert-bit s i n)
+-- a condition that a set does not have yet
+no-bit : (d : ℕ) → d < 2 → (T (eqb d 1) → ⊥) → d ≡ 0
+no-bit zero h n = refl
+no-bit (suc zero) h n = absurd (n tt)
+no-bit (suc (suc d)) h n = absurd (omega arith)
 
-pub bits-singleton : (i : ℕ) → i < 8 → get_or bits i 0 ≡ singleton i
-bits-singleton i h = omega (arith, bits-insert 0 i h (has-none i))
+pub or-insert : (s i : ℕ) → (T (has s i) → ⊥) → bit_or s (singleton i) ≡ insert s i
+or-insert s i n =
+    let one : singleton i ≡ 2 ^ i = insert-bit 0 i (has-none i) ∙ zero-add (bit i) ∙ bit-power i in
+    let none : bit_at s i ≡ 0 = no-bit (s / 2 ^ i % 2) (mod-lt (s / 2 ^ i) (omega arith)) (λ t. n (subst T (sym (has-bit s i)) t)) in
+    let apart : bit_and s (2 ^ i) ≡ 0 = and_pow s i ∙ ap (λ (d : ℕ). d * 2 ^ i) none ∙ zero-mul (2 ^ i) in
+    ap (bit_or s) one ∙ or_disjoint s (2 ^ i) apart ∙ ap (λ (x : ℕ). s + x) (sym (bit-power i)) ∙ sym (insert-bit s i n)
 
--- a set of n conditions stays one
-pub insert-below : (n s i : ℕ) → s < bit n → i < n → insert s i < bit n
-insert-below zero s i h l = absurd (omega arith)
-insert-below (suc n) s zero h l = digit-below 2 1 (s / 2) (bit n) (le_refl 2) (div_below s 2 (bit n) (omega arith) h)
-insert-below (suc n) s (suc i) h l =
-    digit-below 2 (s % 2) (insert (s / 2) i) (bit n) (mod-lt s (omega arith)) (insert-below n (s / 2) i (div_below s 2 (bit n) (omega arith) h) (omega arith))
-
--- one bit more of a count
-pub members-more : (n i found rest : ℕ) → i < n → found + members (n - i) rest ≡ found + rest % 2 + members (n - (i + 1)) (rest / 2)
-members-more n i found rest h =
-    let e : n - i ≡ suc (n - (i + 1)) = omega arith in
-    ap (λ (f : ℕ). found + members f rest) e ∙ sym (add_assoc found (rest % 2) (members (n - (i + 1)) (rest / 2)))
+-- how many members a set has
+pub ones-members : (n s : ℕ) → s < 2 ^ n → ones s ≡ members n s
+unfolding ones
+ones-members zero s h = let z : s ≡ 0 = omega arith in rw z refl
+ones-members (suc n) s h =
+    let half : s / 2 < 2 ^ n = omega (arith, pow-suc 2 n) in
+    ones_step s ∙ ap (λ (m : ℕ). s % 2 + m) (ones-members n (s / 2) half)
 
 pub members_le : (n s : ℕ) → members n s ≤ n
 members_le zero s = omega arith
 members_le (suc n) s = let h : s % 2 < 2 = mod-lt s (omega arith) in omega (arith, members_le n (s / 2))
 
--- one place more of a count
 -- the conditions of a set taken from the places below i
 pub record Taken (t : ℕ) (ks : List ℕ) (i : ℕ) (left : List ℕ) : Type 0 where
   pub len : length left ≡ length ks

@@ -17,8 +17,8 @@ pub fn step(ks: [u8; PLACES], i: usize) -> usize
     ensures { result ≡ step ks i }
 {
     let mut product: usize = 1;
-    for j in 0..i {
-        product = product * (ks[j] as usize);
+    for card in &ks[..i] {
+        product *= usize::from(*card);
     }
     product
 }
@@ -36,9 +36,9 @@ pub fn number(ks: [u8; PLACES], bytes: &[u8], from: usize) -> usize
 {
     let mut cell: usize = 0;
     let mut step: usize = 1;
-    for i in 0..PLACES {
-        cell = cell + step * (bytes[from + i] as usize);
-        step = step * (ks[i] as usize);
+    for (card, value) in ks.iter().zip(&bytes[from..from + PLACES]) {
+        cell += step * usize::from(*value);
+        step *= usize::from(*card);
     }
     cell
 }

@@ -7,14 +7,12 @@ ghost use Rattle.places.specs.Conditions.{IsLowest};
 
 use rules::PLACES;
 
-const BITS: [u8; PLACES] = [1, 2, 4, 8, 16, 32, 64, 128];
-
 // The set of condition i alone.
 pub fn singleton(i: usize) -> u8
     requires { i < 8 }
     ensures { result ≡ singleton i }
 {
-    BITS[i]
+    1 << i
 }
 
 // A set with condition i, which it does not have yet.
@@ -22,20 +20,14 @@ pub fn insert(set: u8, i: usize) -> u8
     requires { (i < 8) × (T (has set i) → ⊥) }
     ensures { result ≡ insert set i }
 {
-    set + BITS[i]
+    set | singleton(i)
 }
 
 // How many conditions a set has.
 pub fn count(set: u8) -> usize
     ensures { result ≡ count set }
 {
-    let mut rest = set;
-    let mut found: usize = 0;
-    for _ in 0usize..8 {
-        found = found + (rest % 2) as usize;
-        rest = rest / 2;
-    }
-    found
+    set.count_ones() as usize
 }
 
 // The places without the conditions of a set.
@@ -43,9 +35,9 @@ pub fn without(ks: [u8; PLACES], set: u8) -> [u8; PLACES]
     ensures { result ≡ without set ks }
 {
     let mut left = ks;
-    for i in 0..PLACES {
+    for (i, card) in left.iter_mut().enumerate() {
         if crate::has_member(set, i) {
-            left[i] = 1;
+            *card = 1;
         }
     }
     left
@@ -68,15 +60,17 @@ pub struct Condition {
     pub values: usize,
 }
 
-// The condition with the lowest number; 8, with one value, where there is none.
+// The condition with the lowest number; 8, with one value, where there is none: so `values` is the number of cells
+// exactly where there is one condition or none. It is found with its values, since a read at a place that is found
+// has the compiler lay the array out in memory.
 pub fn lowest(ks: [u8; PLACES]) -> Condition
     ensures { IsLowest ks result }
 {
-    for i in 0..PLACES {
-        if 1 < ks[i] {
+    for (number, card) in ks.iter().enumerate() {
+        if 1 < *card {
             return Condition {
-                number: i,
-                values: ks[i] as usize,
+                number,
+                values: usize::from(*card),
             };
         }
     }

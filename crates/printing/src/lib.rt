@@ -28,9 +28,7 @@ fn between(lower: u8, upper: u8) {
 
 // The limits of as many cells as both buffers have.
 pub fn limits(lower: &[u8], upper: &[u8]) {
-    for c in 0..lower.len() {
-        if c < upper.len() {
-            between(lower[c], upper[c]);
-        }
+    for (least, most) in lower.iter().zip(upper) {
+        between(*least, *most);
     }
 }

@@ -3,9 +3,9 @@
 #![tactic(auto)]
 
 use shape::Shape;
-use table_file::TableAnswer;
 
 // A file of at most sixteen records.
+// A program without a heap owns its bytes, so their number stands beside them.
 #[derive(Clone, Copy)]
 struct File {
     bytes: [u8; 256],
@@ -57,14 +57,12 @@ impl File {
         }
         let mut bytes = self.bytes;
         bytes[at] = byte;
-        let len = self.len;
-        File { bytes, len }
+        File { bytes, ..self }
     }
 
     // The file cut, or lengthened by zeros, to a number of bytes.
     fn of_length(self, len: usize) -> File {
-        let bytes = self.bytes;
-        File { bytes, len }
+        File { len, ..self }
     }
 }
 
@@ -73,11 +71,10 @@ fn space() {
 }
 
 fn show_cards(shape: Shape) {
-    for i in 0..8 {
-        let card = shape.cardinality(i);
+    for card in shape.cards() {
         if 1 < card {
             space();
-            printing::number(card);
+            printing::number(usize::from(card));
         }
     }
 }
@@ -86,15 +83,15 @@ fn show_shape(shape: Shape) {
     printing::text(b"cardinalities");
     show_cards(shape);
     printing::text(b", grades ");
-    printing::number(shape.m as usize);
+    printing::number(usize::from(shape.m));
 }
 
 fn read_into(name: &[u8], file: &[u8], lower: &mut [u8], upper: &mut [u8]) {
     printing::text(name);
     printing::text(b": ");
     match table_file::read_table(file, lower, upper) {
-        TableAnswer::Table(shape) => show_shape(shape),
-        TableAnswer::Refused(refusal) => printing::refused(refusal),
+        Ok(shape) => show_shape(shape),
+        Err(refusal) => printing::refused(refusal),
     }
     printing::text(b", buffers");
     printing::limits(lower, upper);
@@ -106,15 +103,13 @@ fn read(name: &[u8], file: &[u8], room: usize) {
     let mut lower = [99u8; 16];
     let mut upper = [99u8; 16];
     if room <= 16 {
-        read_into(name, file, &mut lower[0..room], &mut upper[0..room]);
+        read_into(name, file, &mut lower[..room], &mut upper[..room]);
     }
 }
 
 fn try_file(name: &[u8], file: File, room: usize) {
-    let bytes = file.bytes;
-    let len = file.len;
-    if len <= 256 {
-        read(name, &bytes[0..len], room);
+    if file.len <= 256 {
+        read(name, &file.bytes[..file.len], room);
     }
 }
 

@@ -1,6 +1,6 @@
 -- Blocks of grades line by line, and tables block by block.
 use Prim.Native.Nat.{ℕ, ◌+◌, ◌-◌, ◌*◌, ◌/◌, ◌%◌, ◌≤◌, ◌<◌}
-use mathlib.Core.Path.{◌≡◌, refl, sym, ◌∙◌, ap, subst}
+use mathlib.Core.Path.{◌≡◌, sym, ◌∙◌, ap, subst}
 use mathlib.Core.Bool.{Bool}
 use mathlib.Core.List.{List}
 use native.Mathlib.Omega.{arith}
@@ -22,19 +22,6 @@ use Rattle.tables.proofs.LineLaws.{line-end, line_same, line-table, lines_apart}
 use Rattle.rows.specs.Grades.{source, Reads}
 use Rattle.rows.specs.Blocks.{BlockSet, Several, Tables}
 use Rattle.rows.proofs.GradesLaws.{unread, source-length}
-
--- the line of grades at o, and that of answers, while lines are written
-module _ {lent w : List ℕ} {from to step card : ℕ} (some : 0 < card) (r : Reads lent w from to (step * card)) {o : ℕ} (lt : o < step) (w' : List ℕ) (e : length w' ≡ length w) where
-  pub line_of_grades : Line (source lent w') (from + o) step card
-  line_of_grades =
-      record { steps = omega arith; some = some; inside = λ v hv. let i = r.src in omega (arith, line-end step card v hv, source-length lent w w' e) }
-
-  pub line_of_answers : Line w' (to + o) step card
-  line_of_answers = record { steps = omega arith; some = some; inside = λ v hv. let i = r.dst in omega (arith, line-end step card v hv) }
-
-pub block_none : (greatest : Bool) (g : List ℕ) (from : ℕ) (w : List ℕ) (to step card : ℕ) → BlockSet greatest g from w to step card 0 w
-block_none greatest g from w to step card =
-    record { len = refl; done = λ o v h. absurd (omega arith); left = λ o v h g i. refl; before = λ j h. refl; after = λ j h. refl }
 
 -- one line of the block more
 pub block_more : {greatest : Bool} {lent w : List ℕ} {from to step card s : ℕ} {w' : List ℕ} {f : ℕ → ℕ} {w'' : List ℕ} → 0 < card → Reads lent w from to (step * card) → s < step

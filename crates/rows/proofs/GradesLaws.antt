@@ -1,17 +1,18 @@
 -- Grades that are lent, or stand in the slice of the answers.
-use Prim.Native.Nat.{ℕ, ◌+◌, ◌≤◌, ◌<◌}
+use Prim.Native.Nat.{ℕ, zero, suc, ◌+◌, ◌*◌, ◌≤◌, ◌<◌}
 use mathlib.Core.Path.{◌≡◌, refl, sym, ◌∙◌, ap, subst}
 use mathlib.Core.Bool.{Bool}
-use mathlib.Core.List.{List, [], ◌∷◌}
-use mathlib.Core.Logic.{◌⊎◌, ⊎_elim, inl, inr}
-use native.Mathlib.Nat.{zero-add}
+use mathlib.Core.List.{List, [], ◌∷◌, ◌++◌}
+use mathlib.Core.Logic.{⊎_elim, inl, inr}
+use native.Mathlib.Nat.{add-zero}
 use native.Mathlib.Omega.{arith}
 use lib.ListN.{length}
-use Rattle.rules.specs.Bytes.{at, tabulate}
-use Rattle.tables.specs.Part.{part, Laid, Two}
-use Rattle.tables.specs.Line.{best, Line}
-use Rattle.tables.proofs.LendLaws.{lent, lent_length}
-use Rattle.tables.proofs.PartLaws.{part_at}
+use Rattle.std.specs.List.{fold, range_with_len}
+use Rattle.rules.specs.Bytes.{at}
+use Rattle.tables.specs.Part.{part, Laid}
+use Rattle.tables.specs.Line.{best, line_best}
+use Rattle.tables.proofs.LendLaws.{parts_joined}
+use Rattle.tables.proofs.LineLaws.{best-more}
 use Rattle.rows.specs.Grades.{source, Aside, Room, Reads}
 
 -- which slice it is, by the length of the lent one
@@ -27,47 +28,10 @@ pub source-length : (lent w w' : List ℕ) → length w' ≡ length w → length
 source-length [] w w' e = e
 source-length (g ∷ gs) w w' e = refl
 
-pub source-below : (lent w : List ℕ) (k : ℕ) → length lent < k → length w < k → length (source lent w) < k
-source-below [] w k h g = g
-source-below (x ∷ xs) w k h g = h
-
--- the grades lie within a lent slice
-pub src-there : (lent w : List ℕ) {from m to n : ℕ} → Room lent w from m to n → (length lent ≡ 0 → ⊥) → from + m ≤ length lent
-src-there lent w {from} {m} r ne = subst (λ (v : List ℕ). from + m ≤ length v) (there lent w ne) r.src
-
--- a lent slice with a byte is where the grades are
-pub from_lent : (lent w : List ℕ) {from m to n : ℕ} → 0 < length lent → from + m ≤ length lent → to + n ≤ length w → Room lent w from m to n
-from_lent [] w some h g = absurd (omega arith)
-from_lent (x ∷ xs) w some h g = record { src = h; dst = g; aside = tt }
-
--- a part that is lent alone has grades and answers at the same bytes
-pub reads_alone : (w : List ℕ) (a n : ℕ) → a + n ≤ length w → Reads [] (lent a n w) 0 0 n
-reads_alone w a n h = record { src = omega (arith, lent_length a n w h); dst = omega (arith, lent_length a n w h); aside = inl refl }
-
--- in one slice, grades that do not start where the answers do lie apart from them
-pub apart : {lent w : List ℕ} {from to n : ℕ} → Reads lent w from to n → length lent ≡ 0 → (from ≡ to → ⊥) → Two w from to n
-apart {lent} {w} {from} {to} {n} r e ne =
-    record {
-      src = subst (λ (v : List ℕ). from + n ≤ length v) (here lent w e) r.src;
-      dst = r.dst;
-      apart = go lent e r.aside;
-    }
-  where
-    go : (l : List ℕ) → length l ≡ 0 → Aside l from n to n → (from + n ≤ to) ⊎ (to + n ≤ from)
-    go [] e a = ⊎_elim (λ q. absurd (ne q)) (λ q. q) a
-    go (g ∷ gs) e a = absurd (omega arith)
-
 -- what is made of the grades, by where they are
 module _ (lent w : List ℕ) (from to n : ℕ) {v w' : List ℕ} (e : source lent w ≡ v) where
   pub taken : Laid w to (part v from n) n w' → Laid w to (part (source lent w) from n) n w'
   taken l = subst (λ (x : List ℕ). Laid w to (part x from n) n w') (sym e) l
-
-  pub folded : (greatest : Bool) → Laid w to (tabulate n (λ o. best greatest (at w (to + o)) (at v (from + o)))) n w'
-      → Laid w to (tabulate n (λ o. best greatest (at w (to + o)) (at (source lent w) (from + o)))) n w'
-  folded greatest l = subst (λ (x : List ℕ). Laid w to (tabulate n (λ o. best greatest (at w (to + o)) (at x (from + o)))) n w') (sym e) l
-
-pub part_twice : (v : List ℕ) (a n k : ℕ) → k < n → at (part (part v a n) 0 n) k ≡ at (part v a n) k
-part_twice v a n k lt = part_at (part v a n) 0 n k lt ∙ ap (at (part v a n)) (zero-add k)
 
 -- grades that are not written yet are as they were
 pub unread : {lent w : List ℕ} {from m to n : ℕ} (w' : List ℕ) → Room lent w from m to n → ((j : ℕ) → j < to → at w' j ≡ at w j) → ((j : ℕ) → to + n ≤ j → at w' j ≡ at w j)
@@ -103,9 +67,15 @@ fewer {lent} {w} {from} {m} {to} {n} k l h g r =
     go [] a = ⊎_elim (λ e. inl e) (λ q. inr (⊎_elim (λ lo. inl (omega arith)) (λ hi. inr (omega arith)) q)) a
     go (y ∷ ys) a = tt
 
--- the line of grades that a function is lent
-pub line-here : (lent w : List ℕ) {a step card : ℕ} → Line (source lent w) a step card → length lent ≡ 0 → Line w a step card
-line-here lent w {a} {step} {card} l e = subst (λ (v : List ℕ). Line v a step card) (here lent w e) l
+-- the extreme along a line, from its first m cells on
+pub fold-line : (greatest : Bool) (w : List ℕ) (a step m n x : ℕ) → x ≡ line_best greatest w a step m
+    → fold (λ y v. best greatest y (at w (a + step * v))) x (range_with_len m n) ≡ line_best greatest w a step (m + n)
+fold-line greatest w a step m zero x e = e ∙ ap (line_best greatest w a step) (sym (add-zero m))
+fold-line greatest w a step m (suc n) x e =
+    let q : m + 1 + n ≡ m + suc n = omega arith in
+    fold-line greatest w a step (m + 1) n _ (best-more greatest w a step m x e) ∙ ap (line_best greatest w a step) q
 
-pub line-there : (lent w : List ℕ) {a step card : ℕ} → Line (source lent w) a step card → (length lent ≡ 0 → ⊥) → Line lent a step card
-line-there lent w {a} {step} {card} l ne = subst (λ (v : List ℕ). Line v a step card) (there lent w ne) l
+-- what the row is, where the slice of the answers was split in three
+module _ (lent w low rest cells high : List ℕ) (to n : ℕ) (e : w ≡ low ++ rest) (la : length low ≡ to) (f : rest ≡ cells ++ high) (ln : length cells ≡ n) where
+  pub row-part : (r : List ℕ) (from : ℕ) → ((v : List ℕ) → length v ≡ n → r ≡ part (source lent (low ++ (v ++ high))) from n) → r ≡ part (source lent w) from n
+  row-part r from h = h cells ln ∙ ap (λ (x : List ℕ). part (source lent x) from n) (sym (parts_joined w low rest cells high to n e la f ln))

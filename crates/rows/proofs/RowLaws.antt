@@ -2,9 +2,9 @@
 use Prim.Native.Nat.{ℕ, ◌+◌, ◌*◌, ◌≤◌, ◌<◌}
 use mathlib.Core.Path.{◌≡◌, refl, sym, ◌∙◌, ap}
 use mathlib.Core.Bool.{Bool}
-use mathlib.Core.List.{List, [], ◌∷◌}
-use mathlib.Core.Logic.{⊎_elim, inl, inr}
-use native.Mathlib.Nat.{le_refl, mul-one, mul-le-mul_left}
+use mathlib.Core.List.{List}
+use mathlib.Core.Logic.{inl}
+use native.Mathlib.Nat.{mul-one, mul-le-mul_left}
 use native.Mathlib.Omega.{arith}
 use borrow.Author.Count.{below_more}
 use lib.ListN.{length}
@@ -15,9 +15,9 @@ use Rattle.tables.specs.Part.{part, Laid, Two}
 use Rattle.tables.specs.Line.{best, line_best, Block}
 use Rattle.tables.proofs.PartLaws.{part_at}
 use Rattle.tables.proofs.LineLaws.{best-more, best-one, line-end, line_same}
-use Rattle.rows.specs.Grades.{source, Aside, Room, Reads}
+use Rattle.rows.specs.Grades.{source, Room}
 use Rattle.rows.specs.Blocks.{BlockSet, Started, Repeated}
-use Rattle.rows.proofs.GradesLaws.{unread, fewer, source-length}
+use Rattle.rows.proofs.GradesLaws.{unread}
 
 -- row v behind the first
 pub row_behind : (step v : ℕ) → 0 < v → step ≤ step * v
@@ -36,33 +36,8 @@ extremes_one greatest {g} {from} {w} {to} {step} r =
       after = λ j h. refl;
     }
 
--- the first row of a block alone
-pub row_first : {lent w : List ℕ} {from to step card : ℕ} → 0 < card → Room lent w from (step * card) to step → Reads lent w from to step
-row_first {step = step} {card = card} some r = fewer step step (omega (arith, line-end step card 0 some)) (le_refl step) r
-
 -- the room of a first row, when rows below v are in it
 module _ {lent w : List ℕ} {from to step card : ℕ} (r : Room lent w from (step * card) to step) {v : ℕ} (some : 0 < v) (lt : v < card) (row : 0 < step) where
-  pub row_within : from + step * v + step ≤ length (source lent w)
-  row_within = let i = r.src in omega (arith, line-end step card v lt)
-
-  pub row_reads : (w' : List ℕ) → length w' ≡ length w → Reads lent w' (from + step * v) to step
-  row_reads w' e =
-      record { src = omega (arith, row_within, source-length lent w w' e); dst = let i = r.dst in omega arith; aside = go lent r.aside }
-    where
-      go : (l : List ℕ) → Aside l from (step * card) to step → Aside l (from + step * v) step to step
-      go [] a =
-          ⊎_elim (λ e. inr (inr (omega (arith, row_behind step v some))))
-          (λ q. inr (⊎_elim (λ lo. inl (omega (arith, line-end step card v lt))) (λ hi. inr (omega (arith, row_behind step v some))) q)) a
-      go (g ∷ gs) a = tt
-
-  pub row_other : length lent ≡ 0 → from + step * v ≡ to → ⊥
-  row_other e = go lent e r.aside
-    where
-      go : (l : List ℕ) → length l ≡ 0 → Aside l from (step * card) to step → from + step * v ≡ to → ⊥
-      go [] z a q =
-          ⊎_elim (λ e. omega (arith, row_behind step v some)) (λ x. ⊎_elim (λ lo. omega (arith, line-end step card v lt)) (λ hi. omega (arith, row_behind step v some)) x) a
-      go (g ∷ gs) z a q = omega arith
-
   pub extremes_more : (greatest : Bool) {w' w'' : List ℕ} → Extremes greatest (source lent w) from w to step v w'
       → Laid w' to (tabulate step (λ o. best greatest (at w' (to + o)) (at (source lent w') (from + step * v + o)))) step w''
       → Extremes greatest (source lent w) from w to step (v + 1) w''
@@ -109,16 +84,6 @@ module _ {lent w : List ℕ} {from to step card : ℕ} (some : 0 < card) (r : Ro
         before = λ j h. m.before j h ∙ l.before j h;
         after = λ j h. m.after j h ∙ l.after j h;
       }
-
--- the first row in more rows
-pub repeated_one : (w : List ℕ) (a step card : ℕ) → Repeated w a step card 1 w
-repeated_one w a step card =
-    record {
-      len = refl;
-      rows = λ o v h lt. let z : a + o + step * v ≡ a + o = omega (arith, ap (λ (x : ℕ). step * x) (let e : v ≡ 0 = omega arith in e)) in ap (at w) z;
-      before = λ j h. refl;
-      after = λ j h. refl;
-    }
 
 module _ {w : List ℕ} {a step card : ℕ} (b : Block w a step card) {v : ℕ} (some : 0 < v) (lt : v < card) where
   pub copy_within : a + step * v + step ≤ length w

@@ -20,3 +20,8 @@ pub record Room (lent w : List ℕ) (from m to n : ℕ) : Type 0 where
 -- the same for as many answers
 abbrev pub Reads : List ℕ → List ℕ → ℕ → ℕ → ℕ → Type 0
 Reads lent w from to n = Room lent w from n to n
+
+-- n grades at from, in the lent slice or beside the n answers between low and high
+abbrev pub RowBeside : List ℕ → List ℕ → List ℕ → ℕ → ℕ → Type 0
+RowBeside [] low high from n = (from + n ≤ length low) ⊎ ((length low + n ≤ from) × (from ≤ length low + length high))
+RowBeside (g ∷ gs) low high from n = from + n ≤ length (g ∷ gs)

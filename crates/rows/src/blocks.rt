@@ -7,7 +7,7 @@ ghost use Rattle.tables.specs.Part.{part, Laid};
 ghost use Rattle.rows.specs.Grades.{source, Room, Reads};
 ghost use Rattle.rows.specs.Blocks.{BlockSet, Started, Repeated, Several, Tables};
 
-use crate::grades;
+use crate::grades::{self, Lines};
 use rules::PLACES;
 use tables::fill;
 
@@ -24,63 +24,44 @@ fn line_fill(w: &mut [u8], grade: u8, a: usize, step: usize, card: usize)
         w[a + step] = grade;
         return;
     }
+    // By number: a proof learns nothing of what is written through a `step_by` of `iter_mut`.
     for v in 0..card {
         w[a + step * v] = grade;
     }
 }
 
 // The extreme of each line of a block of grades, all along the line.
-fn lines(
-    lent: &[u8],
-    w: &mut [u8],
-    greatest: bool,
-    from: usize,
-    to: usize,
-    step: usize,
-    card: usize,
-)
-    requires { (0 < card) × Reads lent.now w.old from to (step * card) }
-    ensures { BlockSet greatest (source lent.now w.old) from w.old to step card step w.new }
+fn line_by_line(lent: &[u8], w: &mut [u8], lines: Lines, from: usize, to: usize)
+    requires { (0 < lines.card) × Reads lent.now w.old from to (lines.step * lines.card) }
+    ensures { BlockSet lines.greatest (source lent.now w.old) from w.old to lines.step lines.card lines.step w.new }
 {
-    for o in 0..step {
-        let grade = grades::line_grade(lent, w, greatest, from + o, step, card);
-        line_fill(w, grade, to + o, step, card);
+    // By number: both offsets come from it.
+    for o in 0..lines.step {
+        let grade = grades::line_grade(lent, w, lines, from + o);
+        line_fill(w, grade, to + o, lines.step, lines.card);
     }
 }
 
 // A row that has the first row of a block of grades, replaced by the extremes along the block's lines.
-fn fold_rows(
-    lent: &[u8],
-    w: &mut [u8],
-    greatest: bool,
-    from: usize,
-    to: usize,
-    step: usize,
-    card: usize,
-)
-    requires { (0 < card) × (0 < step) × Room lent.now w.old from (step * card) to step × Started (source lent.now w.old) from w.old to step }
-    ensures { Laid w.old to (tabulate step (λ o. line_best greatest (source lent.now w.old) (from + o) step card)) step w.new }
+fn fold_rows(lent: &[u8], w: &mut [u8], lines: Lines, from: usize, to: usize)
+    requires { (0 < lines.card) × (0 < lines.step) × Room lent.now w.old from (lines.step * lines.card) to lines.step
+        × Started (source lent.now w.old) from w.old to lines.step }
+    ensures { Laid w.old to (tabulate lines.step (λ o. line_best lines.greatest (source lent.now w.old) (from + o) lines.step lines.card)) lines.step w.new }
 {
-    for v in 1..card {
-        grades::fold_row(lent, w, greatest, from + step * v, to, step);
+    let step = lines.step;
+    // By number: the offset comes from it.
+    for v in 1..lines.card {
+        grades::fold_row(lent, w, lines.greatest, from + step * v, to, step);
     }
 }
 
 // The extremes along the lines of a block of grades, one for each line, as a row.
-pub fn first_row(
-    lent: &[u8],
-    w: &mut [u8],
-    greatest: bool,
-    from: usize,
-    to: usize,
-    step: usize,
-    card: usize,
-)
-    requires { (0 < card) × (0 < step) × Room lent.now w.old from (step * card) to step }
-    ensures { Laid w.old to (tabulate step (λ o. line_best greatest (source lent.now w.old) (from + o) step card)) step w.new }
+pub fn first_row(lent: &[u8], w: &mut [u8], lines: Lines, from: usize, to: usize)
+    requires { (0 < lines.card) × (0 < lines.step) × Room lent.now w.old from (lines.step * lines.card) to lines.step }
+    ensures { Laid w.old to (tabulate lines.step (λ o. line_best lines.greatest (source lent.now w.old) (from + o) lines.step lines.card)) lines.step w.new }
 {
-    grades::take_row(lent, w, from, to, step);
-    fold_rows(lent, w, greatest, from, to, step, card);
+    grades::take_row(lent, w, from, to, lines.step);
+    fold_rows(lent, w, lines, from, to);
 }
 
 // The other rows of a block, replaced by its first.
@@ -88,30 +69,23 @@ pub fn repeat_row(w: &mut [u8], a: usize, step: usize, card: usize)
     requires { Block w.old a step card }
     ensures { Repeated w.old a step card card w.new }
 {
+    // By number: the offset comes from it.
     for v in 1..card {
         fill::copy(w, a, a + step * v, step);
     }
 }
 
 // The extreme of each line of a block of grades, all along the line: by rows where these are long.
-fn block(
-    lent: &[u8],
-    w: &mut [u8],
-    greatest: bool,
-    from: usize,
-    to: usize,
-    step: usize,
-    card: usize,
-)
-    requires { (0 < card) × Reads lent.now w.old from to (step * card) }
-    ensures { BlockSet greatest (source lent.now w.old) from w.old to step card step w.new }
+fn block(lent: &[u8], w: &mut [u8], lines: Lines, from: usize, to: usize)
+    requires { (0 < lines.card) × Reads lent.now w.old from to (lines.step * lines.card) }
+    ensures { BlockSet lines.greatest (source lent.now w.old) from w.old to lines.step lines.card lines.step w.new }
 {
-    if step < LONG {
-        lines(lent, w, greatest, from, to, step, card);
+    if lines.step < LONG {
+        line_by_line(lent, w, lines, from, to);
         return;
     }
-    first_row(lent, w, greatest, from, to, step, card);
-    repeat_row(w, to, step, card);
+    first_row(lent, w, lines, from, to);
+    repeat_row(w, to, lines.step, lines.card);
 }
 
 // The extremes along condition i, in tables of the places up to it, n cells in all.
@@ -130,18 +104,16 @@ pub fn along(
 {
     let step = places::step(ks, i);
     let card = ks[i] as usize;
+    let lines = Lines {
+        greatest,
+        step,
+        card,
+    };
     let size = step * card;
     let count = n / size;
+    // By number: both offsets come from it.
     for b in 0..count {
-        block(
-            lent,
-            w,
-            greatest,
-            from + size * b,
-            to + size * b,
-            step,
-            card,
-        );
+        block(lent, w, lines, from + size * b, to + size * b);
     }
 }
 
@@ -158,9 +130,15 @@ pub fn runs(
     requires { Several size n × Reads lent.now w.old from to n }
     ensures { Laid w.old to (along_lines greatest (part (source lent.now w.old) from n) 1 size (n / size)) n w.new }
 {
+    let lines = Lines {
+        greatest,
+        step: 1,
+        card: size,
+    };
     let count = n / size;
+    // By number: both offsets come from it.
     for b in 0..count {
-        let grade = grades::line_grade(lent, w, greatest, from + size * b, 1, size);
+        let grade = grades::line_grade(lent, w, lines, from + size * b);
         fill::fill(w, grade, to + size * b, size);
     }
 }

@@ -1,58 +1,59 @@
 // Grades that are read: of the slice that is lent for them or, where that is empty, of the one of the answers.
-ghost use Rattle.std.specs.Prelude.{◌+◌, ◌*◌, ◌≤◌, ◌≡◌, length};
+ghost use Rattle.std.specs.Prelude.{ℕ, ◌+◌, ◌*◌, ◌≤◌, ◌<◌, ◌≡◌, ◌++◌, List, length};
 ghost use Rattle.rules.specs.Bytes.{at, tabulate};
 ghost use Rattle.tables.specs.Line.{best, line_best, Line};
-ghost use Rattle.tables.specs.Part.{part, Laid, Two};
-ghost use Rattle.rows.specs.Grades.{source, Reads};
+ghost use Rattle.tables.specs.Part.{part, Laid};
+ghost use Rattle.rows.specs.Grades.{source, Reads, RowBeside};
 
 use tables::fill;
 use tables::grades::extreme;
 
-// The extreme of the bytes at a, a + step, .., card of them.
-pub fn line_extreme(w: &[u8], greatest: bool, a: usize, step: usize, card: usize) -> u8
-    requires { Line w.now a step card }
-    ensures { result ≡ line_best greatest w.now a step card }
+// Lines of one condition, `card` bytes each that lie `step` apart, and which extreme of them is wanted.
+#[derive(Clone, Copy)]
+pub struct Lines {
+    pub greatest: bool,
+    pub step: usize,
+    pub card: usize,
+}
+
+// The extreme of the line at a.
+pub fn line_extreme(w: &[u8], lines: Lines, a: usize) -> u8
+    requires { Line w.now a lines.step lines.card }
+    ensures { result ≡ line_best lines.greatest w.now a lines.step lines.card }
 {
     // Most conditions have two values: their lines need no loop.
-    if card == 2 {
-        return extreme(greatest, w[a], w[a + step]);
+    if lines.card == 2 {
+        return extreme(lines.greatest, w[a], w[a + lines.step]);
     }
-    let mut found = w[a];
-    for v in 0..card {
-        found = extreme(greatest, found, w[a + step * v]);
-    }
-    found
+    (1..lines.card).fold(w[a], |found, v| {
+        extreme(lines.greatest, found, w[a + lines.step * v])
+    })
+}
+
+// The slice that holds the grades.
+fn source<'a>(lent: &'a [u8], w: &'a [u8]) -> &'a [u8]
+    ensures { result.now ≡ source lent.now w.now }
+{
+    if lent.len() == 0 { w } else { lent }
 }
 
 // The same of the grades.
-pub fn line_grade(lent: &[u8], w: &[u8], greatest: bool, a: usize, step: usize, card: usize) -> u8
-    requires { Line (source lent.now w.now) a step card }
-    ensures { result ≡ line_best greatest (source lent.now w.now) a step card }
+pub fn line_grade(lent: &[u8], w: &[u8], lines: Lines, a: usize) -> u8
+    requires { Line (source lent.now w.now) a lines.step lines.card }
+    ensures { result ≡ line_best lines.greatest (source lent.now w.now) a lines.step lines.card }
+{
+    line_extreme(source(lent, w), lines, a)
+}
+
+// The n grades at `from`, where the slice of the answers is split round those that are to be written.
+fn row<'a>(lent: &'a [u8], low: &'a [u8], high: &'a [u8], from: usize, n: usize) -> &'a [u8]
+    requires { RowBeside lent.now low.now high.now from n }
+    ensures { (v : List ℕ) → length v ≡ n → result.now ≡ part (source lent.now (low.now ++ (v ++ high.now))) from n }
 {
     if lent.len() == 0 {
-        return line_extreme(w, greatest, a, step, card);
+        return fill::beside(low, high, from, n);
     }
-    line_extreme(lent, greatest, a, step, card)
-}
-
-// Each of n bytes at a, replaced by the extreme of it and its fellow at b.
-fn row_extreme(w: &mut [u8], greatest: bool, a: usize, b: usize, n: usize)
-    requires { Two w.old b a n }
-    ensures { Laid w.old a (tabulate n (λ o. best greatest (at w.old (a + o)) (at w.old (b + o)))) n w.new }
-{
-    for o in 0..n {
-        w[a + o] = extreme(greatest, w[a + o], w[b + o]);
-    }
-}
-
-// The same, its fellow being that of a row of another slice.
-fn row_lent(w: &mut [u8], row: &[u8], greatest: bool, a: usize, n: usize)
-    requires { (n ≤ length row.now) × (a + n ≤ length w.old) }
-    ensures { Laid w.old a (tabulate n (λ o. best greatest (at w.old (a + o)) (at row.now o))) n w.new }
-{
-    for o in 0..n {
-        w[a + o] = extreme(greatest, w[a + o], row[o]);
-    }
+    &lent[from..from + n]
 }
 
 // n grades, at `to`.
@@ -60,24 +61,31 @@ pub fn take_row(lent: &[u8], w: &mut [u8], from: usize, to: usize, n: usize)
     requires { Reads lent.now w.old from to n }
     ensures { Laid w.old to (part (source lent.now w.old) from n) n w.new }
 {
-    if lent.len() == 0 {
-        if from == to {
-            return;
-        }
-        fill::copy(w, from, to, n);
+    if lent.len() == 0 && from == to {
         return;
     }
-    fill::load(w, &lent[from..from + n], to, n);
+    let (low, rest) = w.split_at_mut(to);
+    let (answers, high) = rest.split_at_mut(n);
+    fill::put(answers, row(lent, low, high, from, n));
 }
 
-// Each of n answers at `to`, replaced by the extreme of it and of a grade.
+// Each answer, replaced by the extreme of it and of a grade. The grade goes by number: a proof learns nothing of what
+// is written through a `zip` of `iter_mut`.
+fn extremes(answers: &mut [u8], grades: &[u8], greatest: bool)
+    requires { length answers.old ≡ length grades.now }
+    ensures { (o : ℕ) → o < length grades.now → at answers.new o ≡ best greatest (at answers.old o) (at grades.now o) }
+{
+    for (o, answer) in answers.iter_mut().enumerate() {
+        *answer = extreme(greatest, *answer, grades[o]);
+    }
+}
+
+// The same of n answers at `to` and n grades.
 pub fn fold_row(lent: &[u8], w: &mut [u8], greatest: bool, from: usize, to: usize, n: usize)
     requires { Reads lent.now w.old from to n × (length lent.now ≡ 0 → from ≡ to → ⊥) }
     ensures { Laid w.old to (tabulate n (λ o. best greatest (at w.old (to + o)) (at (source lent.now w.old) (from + o)))) n w.new }
 {
-    if lent.len() == 0 {
-        row_extreme(w, greatest, to, from, n);
-        return;
-    }
-    row_lent(w, &lent[from..from + n], greatest, to, n);
+    let (low, rest) = w.split_at_mut(to);
+    let (answers, high) = rest.split_at_mut(n);
+    extremes(answers, row(lent, low, high, from, n), greatest);
 }

@@ -4,29 +4,30 @@ ghost use Rattle.rules.specs.Bytes.{tabulate};
 ghost use Rattle.tables.specs.Line.{line_best, Block, Blocks, line_extremes};
 ghost use Rattle.tables.specs.Part.{Laid};
 
-use crate::{blocks, grades};
+use crate::blocks;
+use crate::grades::{self, Lines};
 
 // The extremes along the lines of a block at a, as a row at `to`: line by line.
-fn pack_lines(w: &mut [u8], greatest: bool, a: usize, to: usize, step: usize, card: usize)
-    requires { Block w.old a step card × (to ≤ a) }
-    ensures { Laid w.old to (tabulate step (λ o. line_best greatest w.old (a + o) step card)) step w.new }
+fn pack_lines(w: &mut [u8], lines: Lines, a: usize, to: usize)
+    requires { Block w.old a lines.step lines.card × (to ≤ a) }
+    ensures { Laid w.old to (tabulate lines.step (λ o. line_best lines.greatest w.old (a + o) lines.step lines.card)) lines.step w.new }
 {
-    for o in 0..step {
-        w[to + o] = grades::line_extreme(w, greatest, a + o, step, card);
+    // By number: the row may lie where the lines that it is made of do.
+    for o in 0..lines.step {
+        w[to + o] = grades::line_extreme(w, lines, a + o);
     }
 }
 
 // The same, by rows where these are long.
-fn pack_block(w: &mut [u8], greatest: bool, a: usize, to: usize, step: usize, card: usize)
-    requires { Block w.old a step card × (to ≤ a) × ((a ≡ to) ⊎ (to + step ≤ a)) }
-    ensures { Laid w.old to (tabulate step (λ o. line_best greatest w.old (a + o) step card)) step w.new }
+fn pack_block(w: &mut [u8], lines: Lines, a: usize, to: usize)
+    requires { Block w.old a lines.step lines.card × (to ≤ a) × ((a ≡ to) ⊎ (to + lines.step ≤ a)) }
+    ensures { Laid w.old to (tabulate lines.step (λ o. line_best lines.greatest w.old (a + o) lines.step lines.card)) lines.step w.new }
 {
-    if step < blocks::LONG {
-        pack_lines(w, greatest, a, to, step, card);
+    if lines.step < blocks::LONG {
+        pack_lines(w, lines, a, to);
         return;
     }
-    let none = [0u8; 0];
-    blocks::first_row(&none, w, greatest, a, to, step, card);
+    blocks::first_row(&[], w, lines, a, to);
 }
 
 // The extremes along the lines of a table of `count` blocks at a, one for each line, at `to`. The table may start
@@ -43,8 +44,14 @@ pub fn pack_blocks(
     requires { Blocks w.old a count step card × (to ≤ a) × ((a ≡ to) ⊎ (to + step ≤ a)) }
     ensures { Laid w.old to (line_extremes greatest w.old a step card count) (step * count) w.new }
 {
+    let lines = Lines {
+        greatest,
+        step,
+        card,
+    };
     let block = step * card;
+    // By number: both offsets come from it.
     for b in 0..count {
-        pack_block(w, greatest, a + block * b, to + step * b, step, card);
+        pack_block(w, lines, a + block * b, to + step * b);
     }
 }

@@ -12,6 +12,7 @@ pub mod TableFile
 pub mod Editions
 pub mod Join
 pub mod Network
+pub mod Kinds
 pub mod NetworkCalls
 pub mod Settings
 pub mod Tree

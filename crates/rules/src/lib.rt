@@ -30,13 +30,6 @@ pub enum Edition {
     Spreadsheet,
 }
 
-// What a call answers whose result is in buffers that it was lent.
-#[derive(Clone, Copy)]
-pub enum Outcome {
-    Written,
-    Refused(Refusal),
-}
-
 // Request 8: the condition that a split takes.
 #[derive(Clone, Copy)]
 pub enum SplitOn {

@@ -2,9 +2,9 @@
 // argument in the place of a struct, and read a bit of it where they need one.
 #![tactic(auto)]
 
-ghost use Rattle.std.specs.Prelude.{◌%◌, ◌≡◌, eqb};
-ghost use Rattle.rules.specs.Settings.{usual, tie_of, splits_of, settings_of};
-ghost use Rattle.settings.specs.Byte.{tie_bit, splits_bit, weak_bit, byte_of};
+ghost use Rattle.std.specs.Prelude.{◌≡◌};
+ghost use Rattle.rules.specs.Settings.{usual, settings_of};
+ghost use Rattle.settings.specs.Byte.{byte_of};
 
 use rules::{Gate, Settings, SplitOn};
 
@@ -19,48 +19,29 @@ pub fn usual() -> Settings
     }
 }
 
-// Whether bit 0 of a byte is set.
-fn low_bit(byte: u8) -> bool
-    ensures { result ≡ eqb (byte % 2) 1 }
-{
-    byte % 2 == 1
-}
-
-fn tie_of(min: bool) -> Gate
-    ensures { result ≡ tie_of min }
-{
-    if min { Gate::Min } else { Gate::Max }
-}
-
-fn splits_of(most: bool) -> SplitOn
-    ensures { result ≡ splits_of most }
-{
-    if most {
-        SplitOn::MostValues
-    } else {
-        SplitOn::Lowest
-    }
-}
-
 // The gate that wins a full tie: bit 0, min.
 pub fn tie(byte: u8) -> Gate
     ensures { result ≡ (settings_of byte).tie }
 {
-    tie_of(low_bit(byte))
+    if byte % 2 == 1 { Gate::Min } else { Gate::Max }
 }
 
 // The condition that a split takes: bit 1, the one with most values.
 pub fn splits(byte: u8) -> SplitOn
     ensures { result ≡ (settings_of byte).splits }
 {
-    splits_of(low_bit(byte / 2))
+    if byte / 2 % 2 == 1 {
+        SplitOn::MostValues
+    } else {
+        SplitOn::Lowest
+    }
 }
 
 // Whether weak joins are tried: bit 2, they are not.
 pub fn weak(byte: u8) -> bool
     ensures { result ≡ (settings_of byte).weak }
 {
-    !low_bit(byte / 4)
+    byte / 4 % 2 != 1
 }
 
 // The settings that a byte says. Its other bits are not looked at.
@@ -74,35 +55,12 @@ pub fn of_byte(byte: u8) -> Settings
     }
 }
 
-fn tie_bit(tie: Gate) -> u8
-    ensures { result ≡ tie_bit tie }
-{
-    match tie {
-        Gate::Min => 1,
-        Gate::Max => 0,
-    }
-}
-
-fn splits_bit(splits: SplitOn) -> u8
-    ensures { result ≡ splits_bit splits }
-{
-    match splits {
-        SplitOn::MostValues => 2,
-        SplitOn::Lowest => 0,
-    }
-}
-
-fn weak_bit(weak: bool) -> u8
-    ensures { result ≡ weak_bit weak }
-{
-    if weak { 0 } else { 4 }
-}
-
 // A byte that says these settings.
 pub fn to_byte(how: Settings) -> u8
     ensures { (result ≡ byte_of how) × (settings_of result ≡ how) }
 {
-    let tie = how.tie;
-    let splits = how.splits;
-    tie_bit(tie) + splits_bit(splits) + weak_bit(how.weak)
+    let tie = u8::from(matches!(how.tie, Gate::Min));
+    let splits = u8::from(matches!(how.splits, SplitOn::MostValues));
+    let none = u8::from(!how.weak);
+    tie + 2 * splits + 4 * none
 }

@@ -13,15 +13,16 @@ use Rattle.rules.specs.declared.Refusal.TheVariants.{ShapeRange}
 use Rattle.rules.specs.Bytes.{at, all, tabulate}
 use Rattle.rules.specs.Cell.{Positive, cells, card}
 use Rattle.rules.specs.Shape.{max_conditions, max_grades, max_cells, place_sound, shape_sound}
-use Rattle.rules.specs.Verdict.{Verdict, accepted, refused, answer_of}
-use Rattle.laws.proofs.VerdictLaws.{row_pass, row_stop}
+use Rattle.std.specs.Prelude.{Result, Ok, Err}
+use Rattle.rules.specs.Verdict.{Verdict, accepted, refused, result_of, answer_of}
+use Rattle.laws.proofs.VerdictLaws.{row_pass, row_stop, result-says, was_ok, was_err}
 use Rattle.laws.proofs.TableLaws.{tabulate_self, tabulate-same}
 use Rattle.laws.proofs.AcceptLaws.{places-positive, length-places, few-values, few-cells, two-grades, few-grades}
+use Rattle.std.specs.List.{list_all, enumerate_from}
+use Rattle.laws.proofs.ChainLaws.{numbered-all}
 use Rattle.laws.proofs.TestLaws.{passes}
 use Rattle.shape.specs.declared.Shape.{Shape}
-use Rattle.shape.specs.declared.ShapeAnswer.{ShapeAnswer}
-use Rattle.shape.specs.declared.ShapeAnswer.TheVariants.{Accepted, Refused}
-use Rattle.shape.specs.Shapes.{cards_of, places_of, is_sound, shape_from, shape_bytes, new_shape, shape_of_bytes, shape_answer, shape_means, Makes}
+use Rattle.shape.specs.Shapes.{cards_of, places_of, is_sound, shape_from, shape_bytes, new_shape, shape_of_bytes, Makes}
 
 pub eight-cards : (s : Shape) → length (cards_of s) ≡ 8
 unfolding cards_of
@@ -71,37 +72,21 @@ sound-shape s e =
       grades-few = few-grades s.n (cards_of s) s.m (eight-cards s) h;
     }
 
--- row 4, test by test
-module _ (s : Shape) where
-  pub sound_by : (a b c d e : Bool) → leb s.n max_conditions ≡ a → all 8 (λ i. place_sound s.n i (at (cards_of s) i)) ≡ b → leb 2 s.m ≡ c → leb s.m max_grades ≡ d
-      → leb (cells (places_of s)) max_cells ≡ e → is_sound s ≡ (a && (b && ((c && d) && e)))
-  sound_by a b c d e p q r t u = cc
+-- the test of a shape's cardinalities, each with its number
+pub cards_pass : (s : Shape) {l : List ℕ} → l ≡ cards_of s → list_all (λ (ic : ℕ × ℕ). place_sound s.n ic.0 ic.1) (enumerate_from 0 l) ≡ all 8 (λ i. place_sound s.n i (at (cards_of s) i))
+unfolding cards_of
+cards_pass s e = ap (λ (l : List ℕ). list_all (λ (ic : ℕ × ℕ). place_sound s.n ic.0 ic.1) (enumerate_from 0 l)) e ∙ numbered-all (place_sound s.n) 0 (cards_of s)
 
 -- the promise of a call that makes a shape, by its verdict
-means : (v : Verdict Shape) → shape_means (shape_answer v) ≡ answer_of shape_bytes v
-means (accepted s) = refl
-means (refused q) = refl
-
-pub makes_as : (v w : Verdict Shape) → v ≡ w → Makes v (shape_answer w)
-makes_as v w e = record { answer = ap shape_answer (sym e); means = means w ∙ ap (answer_of shape_bytes) (sym e) }
+pub makes_as : (v w : Verdict Shape) → v ≡ w → Makes v (result_of (λ s. s) w)
+makes_as v w e = record { answer = ap (result_of (λ s. s)) (sym e); means = result-says (λ s. s) shape_bytes w ∙ ap (answer_of shape_bytes) (sym e) }
 
 -- and the verdict behind its answer
-accepted-refused : {P : Type 0} {s : Shape} {q : Refusal} → Accepted s ≡ Refused q → P
-accepted-refused e = let z : ◌≡◌ {A = ℕ} 0 1 = cc in absurd (omega arith)
+pub makes_ok : {v : Verdict Shape} {r : Result Shape Refusal} {s : Shape} → Makes v r → r ≡ Ok s → v ≡ accepted s
+makes_ok {v} k e = let (x, h) = was_ok (λ s. s) v (sym e ∙ k.answer) in cc
 
-was_accepted : (v : Verdict Shape) {s : Shape} → Accepted s ≡ shape_answer v → v ≡ accepted s
-was_accepted (accepted x) e = cc
-was_accepted (refused q) e = accepted-refused e
-
-was_refused : (v : Verdict Shape) {q : Refusal} → Refused q ≡ shape_answer v → v ≡ refused q
-was_refused (accepted x) e = accepted-refused (sym e)
-was_refused (refused p) e = cc
-
-pub makes_accepted : {v : Verdict Shape} {r : ShapeAnswer} {s : Shape} → Makes v r → r ≡ Accepted s → v ≡ accepted s
-makes_accepted {v} k e = was_accepted v (sym e ∙ k.answer)
-
-pub makes_refused : {v : Verdict Shape} {r : ShapeAnswer} {q : Refusal} → Makes v r → r ≡ Refused q → v ≡ refused q
-makes_refused {v} k e = was_refused v (sym e ∙ k.answer)
+pub makes_err : {v : Verdict Shape} {r : Result Shape Refusal} {q : Refusal} → Makes v r → r ≡ Err q → v ≡ refused q
+makes_err {v} k e = was_err (λ s. s) v (sym e ∙ k.answer)
 
 -- the two ways of `new`
 module _ (n : ℕ) (l : List ℕ) (m : ℕ) (eight : length l ≡ 8) where

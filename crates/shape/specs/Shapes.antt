@@ -1,12 +1,11 @@
--- The struct `Shape` as the rules see it, and what its calls answer.
-use Rattle.std.specs.Prelude.{ℕ, ◌≡◌, Bool, cond, List, [], ◌∷◌, eqb, length, take, drop}
+-- The struct `Shape` as the rules see it, and what the calls that make one promise.
+use Rattle.std.specs.Prelude.{ℕ, ◌≡◌, Bool, cond, List, [], ◌∷◌, Result, eqb, length, take, drop}
+use Rattle.rules.specs.declared.Refusal.{Refusal}
 use Rattle.rules.specs.declared.Refusal.TheVariants.{ShapeRange}
 use Rattle.rules.specs.Bytes.{at}
 use Rattle.rules.specs.Shape.{places, shape_sound}
-use Rattle.rules.specs.Verdict.{Verdict, accepted, refused, unless, Answer, granted, denied, answer_of}
+use Rattle.rules.specs.Verdict.{Verdict, accepted, refused, unless, result_of, says, answer_of}
 use Rattle.shape.specs.declared.Shape.{Shape}
-use Rattle.shape.specs.declared.ShapeAnswer.{ShapeAnswer}
-use Rattle.shape.specs.declared.ShapeAnswer.TheVariants.{Accepted, Refused}
 
 -- the eight bytes of cardinalities, and the places that they are
 unfoldable pub cards_of : Shape → List ℕ
@@ -45,16 +44,7 @@ new_shape n cards m = unless (shape_sound n cards m) ShapeRange (accepted (shape
 abbrev pub shape_of_bytes : List ℕ → Verdict Shape
 shape_of_bytes b = cond (eqb (length b) 10) (new_shape (at b 0) (take 8 (drop 1 b)) (at b 9)) (refused ShapeRange)
 
--- the answer to a verdict, and what it says in 01's numbers: a shape by its ten bytes
-abbrev pub shape_answer : Verdict Shape → ShapeAnswer
-shape_answer (accepted s) = Accepted s
-shape_answer (refused q) = Refused q
-
-abbrev pub shape_means : ShapeAnswer → Answer
-shape_means (Accepted s) = granted (shape_bytes s)
-shape_means (Refused q) = denied q
-
--- the promise of the calls that make a shape
-pub record Makes (v : Verdict Shape) (r : ShapeAnswer) : Type 0 where
-  pub answer : r ≡ shape_answer v
-  pub means : shape_means r ≡ answer_of shape_bytes v
+-- the promise of the calls that make a shape; in 01's numbers, a shape is its ten bytes
+pub record Makes (v : Verdict Shape) (r : Result Shape Refusal) : Type 0 where
+  pub answer : r ≡ result_of (λ s. s) v
+  pub means : says shape_bytes r ≡ answer_of shape_bytes v

@@ -1,8 +1,8 @@
 // Shapes: how many conditions, their cardinalities, how many grades.
 #![tactic(auto)]
 
-ghost use Rattle.std.specs.Prelude.{◌≡◌, max};
-ghost use Rattle.rules.specs.Bytes.{at, all};
+ghost use Rattle.std.specs.Prelude.{◌≡◌, map, max};
+ghost use Rattle.std.specs.List.{list_all, enumerate_from};
 ghost use Rattle.rules.specs.Cell.{cells, card};
 ghost use Rattle.rules.specs.Shape.{place_sound};
 ghost use Rattle.shape.specs.Shapes.{cards_of, places_of, is_sound, new_shape, shape_of_bytes, shape_bytes, Makes};
@@ -25,12 +25,6 @@ pub struct Shape {
     pub m: u8,
 }
 
-#[derive(Clone, Copy)]
-pub enum ShapeAnswer {
-    Accepted(Shape),
-    Refused(Refusal),
-}
-
 impl Shape {
     pub const MAX_CONDITIONS: u8 = 8;
 
@@ -42,7 +36,7 @@ impl Shape {
 
     pub const BYTES: usize = 10;
 
-    pub fn new(n: u8, cards: [u8; PLACES], m: u8) -> ShapeAnswer
+    pub fn new(n: u8, cards: [u8; PLACES], m: u8) -> Result<Shape, Refusal>
         ensures { Makes (new_shape n cards m) result }
     {
         let shape = Shape {
@@ -58,23 +52,20 @@ impl Shape {
             m,
         };
         if shape.sound() {
-            ShapeAnswer::Accepted(shape)
+            Ok(shape)
         } else {
-            ShapeAnswer::Refused(Refusal::ShapeRange)
+            Err(Refusal::ShapeRange)
         }
     }
 
     // From the bytes that C lends: n, the eight cardinalities, m.
-    pub fn from_bytes(bytes: &[u8]) -> ShapeAnswer
+    pub fn from_bytes(bytes: &[u8]) -> Result<Shape, Refusal>
         ensures { Makes (shape_of_bytes bytes.now) result }
     {
-        if bytes.len() != Shape::BYTES {
-            return ShapeAnswer::Refused(Refusal::ShapeRange);
-        }
-        let cards = [
-            bytes[1], bytes[2], bytes[3], bytes[4], bytes[5], bytes[6], bytes[7], bytes[8],
-        ];
-        Shape::new(bytes[0], cards, bytes[9])
+        let &[n, c0, c1, c2, c3, c4, c5, c6, c7, m] = bytes else {
+            return Err(Refusal::ShapeRange);
+        };
+        Shape::new(n, [c0, c1, c2, c3, c4, c5, c6, c7], m)
     }
 
     pub fn to_bytes(self) -> [u8; 10]
@@ -98,35 +89,19 @@ impl Shape {
     pub fn places(self) -> [u8; PLACES]
         ensures { result ≡ places_of self }
     {
-        [
-            at_least_one(self.c0),
-            at_least_one(self.c1),
-            at_least_one(self.c2),
-            at_least_one(self.c3),
-            at_least_one(self.c4),
-            at_least_one(self.c5),
-            at_least_one(self.c6),
-            at_least_one(self.c7),
-        ]
+        with_ones(self.cards())
     }
 
     // Whether this is a shape at all.
     pub fn sound(self) -> bool
         ensures { result ≡ is_sound self }
     {
-        if Shape::MAX_CONDITIONS < self.n {
-            return false;
-        }
-        if !cards_sound(self.n, self.cards()) {
-            return false;
-        }
-        if self.m < 2 {
-            return false;
-        }
-        if Shape::MAX_GRADES < self.m {
-            return false;
-        }
-        self.cells() <= Shape::MAX_CELLS
+        let cards = cards_sound(self.n, self.cards());
+        self.n <= Shape::MAX_CONDITIONS
+            && cards
+            && 2 <= self.m
+            && self.m <= Shape::MAX_GRADES
+            && self.cells() <= Shape::MAX_CELLS
     }
 
     pub fn cells(self) -> usize
@@ -147,22 +122,21 @@ impl Shape {
     }
 }
 
-fn at_least_one(card: u8) -> u8
-    ensures { result ≡ max 1 card }
+// 1 where there is no condition.
+fn with_ones(cards: [u8; PLACES]) -> [u8; PLACES]
+    ensures { result ≡ map (max 1) cards }
 {
-    if card == 0 { 1 } else { card }
+    cards.map(|card| card.max(1))
 }
 
 // Whether each of the first n is a cardinality, and the others are 0.
 fn cards_sound(n: u8, cards: [u8; PLACES]) -> bool
-    ensures { result ≡ all 8 (λ i. place_sound n i (at cards i)) }
+    ensures { result ≡ list_all (λ ic. place_sound n ic.0 ic.1) (enumerate_from 0 cards) }
 {
-    for i in 0..PLACES {
-        if !place_sound(n, i, cards[i]) {
-            return false;
-        }
-    }
-    true
+    cards
+        .iter()
+        .enumerate()
+        .all(|(i, card)| place_sound(n, i, *card))
 }
 
 fn place_sound(n: u8, i: usize, card: u8) -> bool

@@ -3,9 +3,10 @@ use Prim.Native.Nat.{ℕ, ◌+◌, ◌-◌, ◌*◌, ◌≤◌, ◌<◌}
 use mathlib.Core.Path.{◌≡◌, refl, sym, ◌∙◌, ap, ap₂, subst}
 use mathlib.Core.Bool.{Bool, true, false, cond}
 use mathlib.Core.List.{List}
-use native.Mathlib.Nat.{zero-add, le_trans}
+use native.Mathlib.Nat.{le_trans}
 use native.Mathlib.Omega.{arith}
 use lib.ListN.{length}
+use Rattle.std.specs.Prelude.{Option, Some}
 use Rattle.rules.specs.declared.Gate.{Gate}
 use Rattle.rules.specs.declared.Gate.TheVariants.{Min, Max}
 use Rattle.rules.specs.declared.Settings.{Settings}
@@ -16,51 +17,31 @@ use Rattle.rules.specs.Stage.{Stage, first_pair, joining, grouping, groups, keep
 use Rattle.tables.specs.Part.{part, Shaped}
 use Rattle.tables.proofs.PartLaws.{part_at, part_same}
 use Rattle.join_tables.specs.Parts.{Below}
-use Rattle.masks.specs.declared.Pair.{Pair}
-use Rattle.masks.specs.declared.Pair.TheVariants.{Nothing as NoPair, Found as APair}
 use Rattle.masks.specs.Masks.{mask_part, Known}
 use Rattle.masks.specs.Searching.{FirstPair, Searched}
 use Rattle.grouping.specs.declared.Sets.{Sets}
 use Rattle.grouping.specs.Joining.{joins, joins_at}
 use Rattle.grouping.specs.Growing.{Held, Space, First, Grouped}
 use Rattle.grouping.proofs.KeptLaws.{cells-apart, kept-part}
-use Rattle.grouping.proofs.GroupedLaws.{grouped_nothing}
 use Rattle.stage_choice.specs.declared.Choice.{Choice}
 use Rattle.stage_choice.specs.declared.Choice.TheVariants.{Leaf, Split, Join}
-use Rattle.stage_choice.specs.declared.Found.{Found}
-use Rattle.stage_choice.specs.declared.Found.TheVariants.{Nothing, Sets as TwoSets}
 use Rattle.stage_choice.specs.Choosing.{Does, found_sets, Spaced, Exchangeable, Exchanged, limits_at, Stays, Limited, LimitsLaid, Tabled, Sought, Taken, Decided, Settled, Prepared, Chosen}
 use Rattle.stage_drops.specs.Working.{Room, front_stage, Proper, ForBoth}
 use Rattle.stage_drops.proofs.DropLaws.{stage_of}
 use Rattle.stage_choice.proofs.SpaceLaws.{ahead, behind}
 
--- what is found, taken apart
-abbrev Empty : Found → Type 0
-Empty Nothing = Unit {0}
-Empty (TwoSets p) = ⊥
-
-differ : {of : Sets} → Nothing ≡ TwoSets of → ⊥
-differ e = subst Empty e tt
-
-abbrev found-sets : Sets → Found → Sets
-found-sets p Nothing = p
-found-sets p (TwoSets q) = q
-
-same-sets : {p q : Sets} → TwoSets p ≡ TwoSets q → p ≡ q
-same-sets {p} e = ap (found-sets p) e
-
 -- a choice between two groupings that are known
-pub decided : {tie : Gate} {a b : Found} (x y : Found) (r : Choice) → a ≡ x → b ≡ y → Does r (choose tie (found_sets x) (found_sets y)) → Taken x y r → Decided tie a b r
+pub decided : {tie : Gate} {a b : Option Sets} (x y : Option Sets) (r : Choice) → a ≡ x → b ≡ y → Does r (choose tie (found_sets x) (found_sets y)) → Taken x y r → Decided tie a b r
 decided {tie} {a} {b} x y r ea eb e t =
-    subst (λ (z : Found). Decided tie z b r) (sym ea) (subst (λ (z : Found). Decided tie x z r) (sym eb) (record { is = e; taken = t }))
+    subst (λ (z : Option Sets). Decided tie z b r) (sym ea) (subst (λ (z : Option Sets). Decided tie x z r) (sym eb) (record { is = e; taken = t }))
 
-module _ (tie : Gate) {a b : Found} {p q : Sets} (ea : a ≡ TwoSets p) (eb : b ≡ TwoSets q) {k : Bool} (e : k ≡ keeps_max tie p.s p.t q.s q.t) where
-  kept_choice : (v : Bool) → k ≡ v → choose tie (found_sets (TwoSets p)) (found_sets (TwoSets q)) ≡ cond v (joining Max p.s p.t) (joining Min q.s q.t)
+module _ (tie : Gate) {a b : Option Sets} {p q : Sets} (ea : a ≡ Some p) (eb : b ≡ Some q) {k : Bool} (e : k ≡ keeps_max tie p.s p.t q.s q.t) where
+  kept_choice : (v : Bool) → k ≡ v → choose tie (found_sets (Some p)) (found_sets (Some q)) ≡ cond v (joining Max p.s p.t) (joining Min q.s q.t)
   kept_choice v h = ap (λ (z : Bool). cond z (joining Max p.s p.t) (joining Min q.s q.t)) (sym e ∙ h)
 
   pub decided_both : (v : Bool) → k ≡ v → Decided tie a b (cond v (Join Max p) (Join Min q))
-  decided_both true h = decided (TwoSets p) (TwoSets q) (Join Max p) ea eb (kept_choice true h) refl
-  decided_both false h = decided (TwoSets p) (TwoSets q) (Join Min q) ea eb (kept_choice false h) refl
+  decided_both true h = decided (Some p) (Some q) (Join Max p) ea eb (kept_choice true h) refl
+  decided_both false h = decided (Some p) (Some q) (Join Min q) ea eb (kept_choice false h) refl
 
 -- the parts that a grouping works in
 pub space : {w ks : List ℕ} {n : ℕ} → Shaped ks → n ≡ cells ks → Spaced w n → (low : ℕ) → low + n + n + n ≤ 8 * n → Space w ks low (low + n + n) (low + n)
@@ -87,7 +68,7 @@ limits-inside gate n {r} e = go gate e
     go Min e = omega arith
 
 -- a pair that is known
-pub pair_is : {ks : List ℕ} {js : ℕ → ℕ → Bool} {r r' : Pair} → r ≡ r' → FirstPair ks js r → FirstPair ks js r'
+pub pair_is : {ks : List ℕ} {js : ℕ → ℕ → Bool} {r r' : Option (ℕ × ℕ)} → r ≡ r' → FirstPair ks js r → FirstPair ks js r'
 pair_is {ks} {js} e f = subst (FirstPair ks js) e f
 
 -- a table of grades
@@ -101,15 +82,6 @@ module _ {w ks : List ℕ} {m n : ℕ} (p : Room w ks n) where
       let s = subst (Spaced w) p.own (room-spaced p) in
       subst (Exchangeable w m) (sym p.own)
       (record { spaced = s; some = r.some; lows = below_of (λ k h. le_trans (r.ordered k h) (r.top k h)); highs = below_of r.top })
-
-  pub laid-max : LimitsLaid Max m ks n w 0 w
-  laid-max =
-      record {
-        place = refl;
-        limits = record { lows = refl; highs = ap (λ (a : ℕ). part w a (cells ks)) (zero-add (cells ks)) };
-        kept = λ j h. refl;
-        len = refl;
-      }
 
   pub laid-min : {w' : List ℕ} → Exchanged m n w w' → LimitsLaid Min m ks n w (3 * n) w'
   laid-min {w'} e =
@@ -137,16 +109,6 @@ module _ (gate : Gate) (m : ℕ) (w ks : List ℕ) where
   whole : length ks ≡ 8 → grouping (present ks) gate_joins (numbers_from 0 8) ≡ groups m x gate
   whole eight = ap (λ (k : ℕ). grouping (present ks) gate_joins (numbers_from 0 k)) (sym eight)
 
-  pub sought_none : length ks ≡ 8 → FirstPair ks gate_joins NoPair → Sought gate m ks w Nothing w
-  sought_none eight f =
-      record {
-        is = grouped_nothing ks gate_joins f.is ∙ whole eight;
-        tables = λ of e. absurd (differ e);
-        off = λ e. refl;
-        kept = λ j h. refl;
-        len = refl;
-      }
-
   module _ {n r : ℕ} {w₁ : List ℕ} (own : n ≡ cells ks) (l : LimitsLaid gate m ks n w r w₁) where
     high-here : part w₁ (r + n) (cells ks) ≡ (exchange_for gate ks m x.limits).upper
     high-here = ap (λ (k : ℕ). part w₁ (r + k) (cells ks)) own ∙ l.limits.highs
@@ -155,7 +117,7 @@ module _ (gate : Gate) (m : ℕ) (w ks : List ℕ) where
     unfolding joins
     joins-here = ap₂ (joins ks) (sym l.limits.lows) (sym high-here)
 
-    pub first-here : {i j : ℕ} → FirstPair ks gate_joins (APair i j) → First (joins_at ks w₁ r (r + n)) ks i j
+    pub first-here : {i j : ℕ} → FirstPair ks gate_joins (Some (i, j)) → First (joins_at ks w₁ r (r + n)) ks i j
     first-here f =
         record {
           rising = f.rising.0;
@@ -164,12 +126,12 @@ module _ (gate : Gate) (m : ℕ) (w ks : List ℕ) where
         }
 
     pub sought_some : length ks ≡ 8 → {of : Sets} {w₂ : List ℕ} → Space w₁ ks r (r + n + n) (r + n) → Grouped w₁ ks r (r + n) (r + n + n) (r + n) of w₂
-        → Sought gate m ks w (TwoSets of) w₂
+        → Sought gate m ks w (Some of) w₂
     sought_some eight {of} {w₂} s g =
         record {
           is = g.is ∙ ap (λ (js : ℕ → ℕ → Bool). grouping (present ks) js (numbers_from 0 8)) (sym joins-here) ∙ whole eight;
-          tables = λ p e. subst (λ (q : Sets). Tabled gate m x (limits_at gate (cells ks)) q w₂) (same-sets e) (subst (λ (a : ℕ). Tabled gate m x a of w₂) place tabled);
-          off = λ e. absurd (differ (sym e));
+          tables = λ p e. subst (λ (q : Sets). Tabled gate m x (limits_at gate (cells ks)) q w₂) (cc) (subst (λ (a : ℕ). Tabled gate m x a of w₂) place tabled);
+          off = λ e. cc;
           kept = λ j h. g.kept.other j (apart j h).0 (apart j h).1 ∙ l.kept j (stays j h);
           len = g.kept.len ∙ l.len;
         }
@@ -198,14 +160,14 @@ module _ (gate : Gate) (m : ℕ) (w ks : List ℕ) where
             go Min e h = (λ a b. omega arith, λ a b. omega arith)
 
 -- both groupings sought, the one for min first: the stage stays at the front for the other
-module _ {m : ℕ} {ks w : List ℕ} (long : 8 * cells ks ≤ length w) {b : Found} {w₁ : List ℕ} (min : Sought Min m ks w b w₁) where
+module _ {m : ℕ} {ks w : List ℕ} (long : 8 * cells ks ≤ length w) {b : Option Sets} {w₁ : List ℕ} (min : Sought Min m ks w b w₁) where
   pub same-front : front_stage ks w₁ ≡ front_stage ks w
   same-front = ap₂ (stage_of ks) (stay 0 (omega arith)) (stay (cells ks) (omega arith))
     where
       stay : (a : ℕ) → a + cells ks ≤ 2 * cells ks → part w₁ a (cells ks) ≡ part w a (cells ks)
       stay a h = part_same w w₁ a (cells ks) (omega arith) min.len (λ j lt. min.kept (a + j) (omega arith))
 
-  module _ {a : Found} {w₂ : List ℕ} (max : Sought Max m ks w₁ a w₂) where
+  module _ {a : Option Sets} {w₂ : List ℕ} (max : Sought Max m ks w₁ a w₂) where
     behind_max : (i : ℕ) → 3 * cells ks ≤ i → i + cells ks ≤ 8 * cells ks → part w₂ i (cells ks) ≡ part w₁ i (cells ks)
     behind_max i h l = let e = min.len in part_same w₁ w₂ i (cells ks) (omega arith) max.len (λ j lt. max.kept (i + j) (omega arith))
 
@@ -241,13 +203,13 @@ module _ {m : ℕ} {ks w : List ℕ} (long : 8 * cells ks ≤ length w) {b : Fou
 
 -- what the two searches for a grouping ask, from the masks
 module _ {m : ℕ} {ks w : List ℕ} {n : ℕ} (room : Room w ks n) (proper : Proper m (front_stage ks w)) (k : Known m ks w) where
-  pair_of : (op : Gate) {r : Pair} → Searched ks (part w (mask_part op n) n) r → FirstPair ks (gate_joins op m w ks) r
+  pair_of : (op : Gate) {r : Option (ℕ × ℕ)} → Searched ks (part w (mask_part op n) n) r → FirstPair ks (gate_joins op m w ks) r
   pair_of op {r} s = (subst (λ (c : ℕ). Searched ks (part w (mask_part op c) c) r) room.own s).first op m _ (k.masks op)
 
-  pub seek_min : {r : Pair} → Searched ks (part w (3 * n) n) r → Room w ks n × Proper m (front_stage ks w) × FirstPair ks (gate_joins Min m w ks) r
+  pub seek_min : {r : Option (ℕ × ℕ)} → Searched ks (part w (3 * n) n) r → Room w ks n × Proper m (front_stage ks w) × FirstPair ks (gate_joins Min m w ks) r
   seek_min s = (room, proper, pair_of Min s)
 
-  pub seek_max : {r : Pair} {b : Found} {w₁ : List ℕ} → Searched ks (part w (2 * n) n) r → Sought Min m ks w b w₁
+  pub seek_max : {r : Option (ℕ × ℕ)} {b : Option Sets} {w₁ : List ℕ} → Searched ks (part w (2 * n) n) r → Sought Min m ks w b w₁
       → Room w₁ ks n × Proper m (front_stage ks w₁) × FirstPair ks (gate_joins Max m w₁ ks) r
   seek_max {r} s q =
       let e = sym (same-front (own-length room) q) in

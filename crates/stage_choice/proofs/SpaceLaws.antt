@@ -9,7 +9,7 @@ use Rattle.rules.specs.declared.Gate.TheVariants.{Min}
 use Rattle.laws.proofs.TableLaws.{length-tabulate_from}
 use Rattle.tables.specs.Part.{part, Laid, Two}
 use Rattle.tables.proofs.PartLaws.{part_length, laid-part, laid-apart}
-use Rattle.join_tables.specs.Parts.{turned, Below}
+use Rattle.join_tables.specs.Parts.{turned}
 use Rattle.grouping.specs.Growing.{Kept}
 use Rattle.grouping.proofs.KeptLaws.{turn-apart, kept_then, kept-turn, kept-laid, kept-part}
 use Rattle.stage_choice.specs.Choosing.{Spaced, Exchangeable, Exchanged, MinSettled}
@@ -35,13 +35,6 @@ module _ {w : List ℕ} {n : ℕ} (p : Spaced w n) where
   copied from to f g l = let r = p.room in laid-part l (omega arith) (part_length w from n (omega arith))
 
 module _ {w : List ℕ} {m n : ℕ} (p : Exchangeable w m n) where
-  pub exchange-first : (1 ≤ m) × Two w n (3 * n) n × Below w n n m
-  exchange-first = (p.some, ahead p.spaced n (3 * n) (omega arith) (omega arith), p.highs)
-
-  pub exchange-second : {t w₁ : List ℕ} → Laid w (3 * n) t n w₁ → (1 ≤ m) × Two w₁ 0 (4 * n) n × Below w₁ 0 n m
-  exchange-second l =
-      (p.some, ahead (spaced-same l.len p.spaced) 0 (4 * n) (omega arith) (omega arith), record { grade = λ k h. rw (l.before (0 + k) (omega arith)) (p.lows.grade k h) })
-
   pub exchanged : {w₁ w₂ : List ℕ} → Laid w (3 * n) (turned Min n m (part w n n)) n w₁ → Laid w₁ (4 * n) (turned Min n m (part w₁ 0 n)) n w₂ → Exchanged m n w w₂
   exchanged {w₁} {w₂} l k =
       let s = p.spaced in

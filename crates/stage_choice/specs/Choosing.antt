@@ -1,5 +1,5 @@
 -- 01, Stages, steps 3 and 4, in a stage's work buffer.
-use Rattle.std.specs.Prelude.{ℕ, ◌+◌, ◌*◌, ◌≤◌, ◌<◌, ◌≡◌, List, length}
+use Rattle.std.specs.Prelude.{ℕ, ◌+◌, ◌*◌, ◌≤◌, ◌<◌, ◌≡◌, List, Option, Some, None, length}
 use Rattle.rules.specs.declared.Gate.{Gate}
 use Rattle.rules.specs.declared.Gate.TheVariants.{Min, Max}
 use Rattle.rules.specs.declared.Settings.{Settings}
@@ -14,8 +14,6 @@ use Rattle.grouping.specs.declared.Sets.{Sets}
 use Rattle.grouping.specs.Growing.{Held, Kept, sets_of}
 use Rattle.stage_choice.specs.declared.Choice.{Choice}
 use Rattle.stage_choice.specs.declared.Choice.TheVariants.{Leaf, Split, Join}
-use Rattle.stage_choice.specs.declared.Found.{Found}
-use Rattle.stage_choice.specs.declared.Found.TheVariants.{Nothing, Sets as TwoSets}
 use Rattle.stage_drops.specs.Working.{front_stage, ForBoth}
 
 -- a choice of the code is one of the rules, which are asked only where two conditions are left
@@ -24,9 +22,9 @@ Does Leaf q = ⊥
 Does Split q = q ≡ split
 Does (Join gate of) q = q ≡ joining gate of.s of.t
 
-abbrev pub found_sets : Found → Grouping
-found_sets Nothing = none
-found_sets (TwoSets p) = sets_of p
+abbrev pub found_sets : Option Sets → Grouping
+found_sets None = none
+found_sets (Some p) = sets_of p
 
 -- eight parts of n bytes
 pub record Spaced (w : List ℕ) (n : ℕ) : Type 0 where
@@ -73,22 +71,22 @@ pub record Tabled (gate : Gate) (m : ℕ) (x : Stage) (low : ℕ) (of : Sets) (w
   pub held : let n = cells x.ks in Held x.ks (exchange_for gate x.ks m x.limits).upper of.s of.t (low + n + n) (low + n) w
 
 -- the grouping for a gate of the stage at the front; where there is none, nothing was written
-pub record Sought (gate : Gate) (m : ℕ) (ks w : List ℕ) (r : Found) (w' : List ℕ) : Type 0 where
+pub record Sought (gate : Gate) (m : ℕ) (ks w : List ℕ) (r : Option Sets) (w' : List ℕ) : Type 0 where
   pub is : found_sets r ≡ groups m (front_stage ks w) gate
-  pub tables : (of : Sets) → r ≡ TwoSets of → Tabled gate m (front_stage ks w) (limits_at gate (cells ks)) of w'
-  pub off : r ≡ Nothing → w' ≡ w
+  pub tables : (of : Sets) → r ≡ Some of → Tabled gate m (front_stage ks w) (limits_at gate (cells ks)) of w'
+  pub off : r ≡ None → w' ≡ w
   pub kept : (j : ℕ) → Stays gate (cells ks) j → at w' j ≡ at w j
   pub len : length w' ≡ length w
 
 -- the grouping that a choice takes its sets from; a split takes none, so there is none
-abbrev pub Taken : Found → Found → Choice → Type 0
+abbrev pub Taken : Option Sets → Option Sets → Choice → Type 0
 Taken a b Leaf = ⊥
-Taken a b Split = (a ≡ Nothing) × (b ≡ Nothing)
-Taken a b (Join Max of) = a ≡ TwoSets of
-Taken a b (Join Min of) = b ≡ TwoSets of
+Taken a b Split = (a ≡ None) × (b ≡ None)
+Taken a b (Join Max of) = a ≡ Some of
+Taken a b (Join Min of) = b ≡ Some of
 
 -- the choice between the grouping for max and the one for min, by the gate that wins ties
-pub record Decided (tie : Gate) (a b : Found) (r : Choice) : Type 0 where
+pub record Decided (tie : Gate) (a b : Option Sets) (r : Choice) : Type 0 where
   pub is : Does r (rules.choose tie (found_sets a) (found_sets b))
   pub taken : Taken a b r
 

@@ -9,7 +9,6 @@ ghost use Rattle.rules.specs.Settings.{settings_of};
 ghost use Rattle.stage_choice.specs.Choosing.{Spaced, Exchangeable, Exchanged, LimitsLaid, Sought, Decided, MinSettled, Settled, Chosen};
 
 use grouping::Sets;
-use masks::Pair;
 use rules::{Gate, PLACES};
 use tables::fill;
 
@@ -19,13 +18,6 @@ pub enum Choice {
     Leaf,
     Split,
     Join(Gate, Sets),
-}
-
-// What a search for a join ends with.
-#[derive(Clone, Copy)]
-pub enum Found {
-    Nothing,
-    Sets(Sets),
 }
 
 // The limits as a min join wants them, in parts 3 and 4.
@@ -53,36 +45,37 @@ fn lay_limits(w: &mut [u8], gate: Gate, ks: [u8; PLACES], m: u8, n: usize) -> us
 
 // The grouping for a gate, which grows from the first pair that joins by it. Where there is none, nothing is
 // written.
-fn seek(w: &mut [u8], gate: Gate, ks: [u8; PLACES], m: u8, n: usize, pair: Pair) -> Found
+fn seek(
+    w: &mut [u8],
+    gate: Gate,
+    ks: [u8; PLACES],
+    m: u8,
+    n: usize,
+    pair: Option<(usize, usize)>,
+) -> Option<Sets>
     requires { Room w.old ks n × Proper m (front_stage ks w.old) × FirstPair ks (λ a b. join_exists gate ks m a b (front_stage ks w.old).limits) «pair» }
     ensures { Sought gate m ks w.old result w.new }
 {
-    let Pair::Found(i, j) = pair else {
-        return Found::Nothing;
-    };
+    let (i, j) = pair?;
     let low = lay_limits(w, gate, ks, m, n);
-    Found::Sets(grouping::group(w, ks, n, i, j, low, low + n))
+    Some(grouping::group(w, ks, n, i, j, low, low + n))
 }
 
 // The choice between the grouping for max and the one for min, by the gate that wins ties.
-fn decide(tie: Gate, by_max: Found, by_min: Found) -> Choice
+fn decide(tie: Gate, by_max: Option<Sets>, by_min: Option<Sets>) -> Choice
     ensures { Decided tie by_max by_min result }
 {
-    match by_max {
-        Found::Nothing => match by_min {
-            Found::Nothing => Choice::Split,
-            Found::Sets(least) => Choice::Join(Gate::Min, least),
-        },
-        Found::Sets(most) => match by_min {
-            Found::Nothing => Choice::Join(Gate::Max, most),
-            Found::Sets(least) => {
-                if grouping::keeps_max(tie, most, least) {
-                    Choice::Join(Gate::Max, most)
-                } else {
-                    Choice::Join(Gate::Min, least)
-                }
+    match (by_max, by_min) {
+        (None, None) => Choice::Split,
+        (Some(most), None) => Choice::Join(Gate::Max, most),
+        (None, Some(least)) => Choice::Join(Gate::Min, least),
+        (Some(most), Some(least)) => {
+            if grouping::keeps_max(tie, most, least) {
+                Choice::Join(Gate::Max, most)
+            } else {
+                Choice::Join(Gate::Min, least)
             }
-        },
+        }
     }
 }
 
@@ -101,13 +94,8 @@ fn settle(w: &mut [u8], choice: Choice, n: usize)
     requires { Spaced w.old n }
     ensures { Settled n w.old choice w.new }
 {
-    match choice {
-        Choice::Leaf => {}
-        Choice::Split => {}
-        Choice::Join(gate, _) => match gate {
-            Gate::Max => {}
-            Gate::Min => settle_min(w, n),
-        },
+    if let Choice::Join(Gate::Min, _) = choice {
+        settle_min(w, n);
     }
 }
 

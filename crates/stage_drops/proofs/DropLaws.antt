@@ -1,17 +1,17 @@
 -- Laws of step 1 in a stage's buffer.
 use Prim.Native.Nat.{ℕ, suc, ◌+◌, ◌*◌, ◌≤◌, ◌<◌}
 use mathlib.Core.Path.{◌≡◌, refl, sym, ◌∙◌, ap, ap₂, subst}
-use mathlib.Core.Bool.{Bool, true, false, cond, ◌&&◌}
+use mathlib.Core.Bool.{Bool, true, false, cond}
 use mathlib.Core.List.{List}
-use native.Mathlib.Nat.{zero-add, mul-le-mul_right}
+use native.Mathlib.Nat.{zero-add}
 use native.Mathlib.Omega.{arith}
 use lib.ListN.{length, get_or}
 use Rattle.rules.specs.Bytes.{numbers_from}
-use Rattle.rules.specs.Cell.{Positive, cells, present, step, singleton, without, over, moved}
-use Rattle.rules.specs.Stage.{Stage, outside, merged, fits, drop_one, drops, left}
+use Rattle.rules.specs.Cell.{Positive, cells, step, singleton, without, over, moved}
+use Rattle.rules.specs.Stage.{Stage, outside, merged, drop_one, drops}
 use Rattle.laws.proofs.TableLaws.{length-tabulate_from}
 use Rattle.laws.proofs.CellLaws.{length_without, without-cells, without_pos}
-use Rattle.laws.proofs.LineLaws.{step_pos, step-without}
+use Rattle.laws.proofs.LineLaws.{step-without}
 use Rattle.laws.proofs.LoopLaws.{step_start, step_le, step-more, drops-next}
 use Rattle.laws.proofs.StageLaws.{drops_shrunk}
 use Rattle.tables.specs.Part.{part, Laid, Shaped}
@@ -79,29 +79,6 @@ both_packed {w} {w₁} {w₂} {ks} {c} {i} {stp} {crd} {count} m h n l u =
         ∙ laid-part u' (let e = l.len in omega (arith, room, k)) (length-tabulate_from _ 0 (cells b))
         ∙ ap (λ (t : List ℕ). moved ks b (over (best false) ks (singleton i) t)) (kept ∙ ap (λ (a : ℕ). part w a (cells ks)) m.own)
 
-and_false : (p : Bool) {q : Bool} → q ≡ false → (p && q) ≡ false
-and_false true e = e
-and_false false e = refl
-
-module _ (ks w : List ℕ) (i : ℕ) where
-  abbrev x : Stage
-  x = front_stage ks w
-
-  dropped : (q : Bool) → (present ks i && fits ks (merged i x)) ≡ q → drop_one i x ≡ cond q (outside (singleton i) x (merged i x)) x
-  dropped q e = ap (λ (p : Bool). cond p (outside (singleton i) x (merged i x)) x) e
-
-  -- a condition that is not there
-  pub drop_absent : present ks i ≡ false → Turned (drop_one i) ks w ks w
-  drop_absent e = record { stage = sym (dropped false (ap (λ (p : Bool). p && fits ks (merged i x)) e)); len = refl }
-
-  -- one without which limits would cross
-  pub drop_crossed : fits ks (merged i x) ≡ false → Turned (drop_one i) ks w ks w
-  drop_crossed e = record { stage = sym (dropped false (and_false (present ks i) e)); len = refl }
-
-  pub drop-one : {r w' : List ℕ} → present ks i ≡ true → fits ks (merged i x) ≡ true
-      → Turned (λ y. outside (singleton i) y (merged i y)) ks w r w' → Turned (drop_one i) ks w r w'
-  drop-one e f t = record { stage = t.stage ∙ sym (dropped true (ap₂ ◌&&◌ e f)); len = t.len }
-
 -- the conditions below i tried
 abbrev pub Tried : List ℕ → ℕ → List ℕ → List ℕ → List ℕ → Type 0
 Tried ks i w r w' = Turned (drops (numbers_from 0 i)) ks w r w'
@@ -130,10 +107,6 @@ tried-room {ks} {w} {r} {w'} {c} {n} i m q t =
     let l = t.len in
     record { shaped = record { some = subst Positive (sym e) s.pos; few = omega arith }; own = q; room = omega arith }
 
--- all of them
-pub tried-all : {ks w r w' : List ℕ} (i : ℕ) → i ≡ length ks → Tried ks i w r w' → Turned left ks w r w'
-tried-all {ks} {w} {r} {w'} i e t = record { stage = t.stage ∙ ap (λ (n : ℕ). drops (numbers_from 0 n) (front_stage ks w)) e; len = t.len }
-
 -- a loop's state: the conditions below j tried, the places, cells and limits that are left, and the step of condition i
 pub record Going (ks w : List ℕ) (j i : ℕ) (r : List ℕ) (n stp : ℕ) (w' : List ℕ) : Type 0 where
   pub len : length r ≡ length ks
@@ -150,14 +123,13 @@ module _ {ks w : List ℕ} {i : ℕ} {r : List ℕ} {n stp : ℕ} {w' : List ℕ
 
   module _ (g : Going ks w i i r n stp w') (q : Bool) {w'' : List ℕ} (u : Turned (drop_one i) r w' (cond q (without (singleton i) r) r) w'') where
     -- condition i is dropped, or stays
-    pub going_less : q ≡ true → {b : List ℕ} {k m : ℕ} → k ≡ singleton i → b ≡ without k r → m ≡ cells b → Going ks w (i + 1) i b m stp w''
-    going_less e {b} {k} {m} ek eb em =
-        let z : b ≡ without (singleton i) r = eb ∙ ap (λ (x : ℕ). without x r) ek in
+    pub going_less : q ≡ true → {b : List ℕ} {m : ℕ} → b ≡ without (singleton i) r → m ≡ cells b → Going ks w (i + 1) i b m stp w''
+    going_less e {b} {m} eb em =
         record {
-          len = ap length z ∙ length_without (singleton i) r ∙ g.len;
+          len = ap length eb ∙ length_without (singleton i) r ∙ g.len;
           count = em;
-          step_is = g.step_is ∙ sym (step-without r i) ∙ ap (λ (l : List ℕ). step l i) (sym z);
-          tried = tried-more i g.tried (subst (λ (l : List ℕ). Turned (drop_one i) r w' l w'') (sym z) (subst (λ (x : Bool). Turned (drop_one i) r w' (cond x (without (singleton i) r) r) w'') e u));
+          step_is = g.step_is ∙ sym (step-without r i) ∙ ap (λ (l : List ℕ). step l i) (sym eb);
+          tried = tried-more i g.tried (subst (λ (l : List ℕ). Turned (drop_one i) r w' l w'') (sym eb) (subst (λ (x : Bool). Turned (drop_one i) r w' (cond x (without (singleton i) r) r) w'') e u));
         }
 
     pub going_same : q ≡ false → {b : List ℕ} {m : ℕ} → b ≡ r → m ≡ n → Going ks w (i + 1) i b m stp w''
@@ -173,10 +145,8 @@ module _ {ks w : List ℕ} {i : ℕ} {r : List ℕ} {n stp : ℕ} {w' : List ℕ
     pub going_on : Going ks w (i + 1) (i + 1) r n (stp * get_or r i 0) w'
     going_on = record { len = g.len; count = g.count; step_is = next; tried = g.tried }
 
-    pub going_low : {c : ℕ} → Room w ks c → (get_or r i 0 ≤ 1024) × (stp * get_or r i 0 ≤ 1024)
+    pub going_low : {c : ℕ} → Room w ks c → stp * get_or r i 0 ≤ 1024
     going_low m =
         let t = tried-room (i + 1) m g.count g.tried in
         let few = t.shaped.few in
-        let low : stp * get_or r i 0 ≤ 1024 = omega (arith, next, step_le r (i + 1) t.shaped.some) in
-        let some : 1 ≤ stp = rw g.step_is (step_pos r i t.shaped.some) in
-        (omega (arith, mul-le-mul_right (get_or r i 0) some), low)
+        omega (arith, next, step_le r (i + 1) t.shaped.some)

@@ -1,13 +1,13 @@
 -- The last condition of a stage, in its buffer.
 use Prim.Native.Nat.{ℕ, ◌≤◌, ◌<◌}
-use mathlib.Core.Path.{◌≡◌, refl, sym, ◌∙◌, ap}
+use mathlib.Core.Path.{◌≡◌, sym, ◌∙◌, ap}
 use mathlib.Core.List.{List}
 use native.Mathlib.Omega.{arith}
 use lib.ListN.{length}
 use Rattle.rules.specs.Cell.{width, step}
 use Rattle.rules.specs.Stage.{drop_one, left}
-use Rattle.laws.proofs.LastLaws.{step-lowest, none_dropped, one_dropped}
-use Rattle.laws.proofs.LowestLaws.{none_left, some_left, narrow-left}
+use Rattle.laws.proofs.LastLaws.{step-lowest, one_dropped}
+use Rattle.laws.proofs.LowestLaws.{some_left, narrow-left}
 use Rattle.places.specs.declared.sets.Condition.{Condition}
 use Rattle.places.specs.Conditions.{IsLowest}
 use Rattle.tables.specs.Line.{Counts}
@@ -17,11 +17,6 @@ use Rattle.stage_drops.specs.Working.{Room, front_stage, Turned}
 module _ {ks : List ℕ} {low : Condition} {n : ℕ} (w : List ℕ) (room : Room w ks n) (is : IsLowest ks low) (all : low.values ≡ n) where
   narrow : width ks < 2
   narrow = narrow-left ks room.shaped.some (sym is.values ∙ all ∙ room.own)
-
-  pub none-turned : length ks ≡ 8 → 8 ≤ low.number → Turned left ks w ks w
-  none-turned e l =
-      let f = is.number in
-      record { stage = sym (none_dropped (front_stage ks w) (none_left ks room.shaped.some (omega arith))); len = refl }
 
   module _ (l : low.number < 8) (e : length ks ≡ 8) where
     some : 1 ≤ width ks

@@ -2,14 +2,17 @@
 // lower ones and right behind them the upper ones, a byte for each cell. A drop leaves them so.
 #![tactic(auto)]
 
-ghost use Rattle.std.specs.Prelude.{◌≡◌, true, cond, ◌⊎◌, ◌+◌, ◌*◌, ◌≤◌, ◌<◌};
+ghost use Rattle.std.specs.Prelude.{◌≡◌, true, cond, ◌⊎◌, ◌+◌, ◌*◌, ◌≤◌, ◌<◌, leb, length};
+ghost use Rattle.rules.specs.Bytes.{at};
 ghost use Rattle.rules.specs.Cell.{cells, singleton, without};
 ghost use Rattle.rules.specs.Stage.{outside, merged, fits, drop_one, left};
 ghost use Rattle.places.specs.Conditions.{IsLowest};
 ghost use Rattle.tables.specs.Line.{Blocks, line_extremes, Counts};
 ghost use Rattle.tables.specs.Part.{Laid};
+ghost use Rattle.lines.specs.Along.{LineOn, least_on};
 ghost use Rattle.stage_drops.specs.Working.{Room, front_stage, Turned};
 
+use lines::{Along, walk};
 use places::sets;
 use places::sets::Condition;
 use rows::packing;
@@ -53,19 +56,20 @@ fn drop_condition(w: &mut [u8], ks: [u8; PLACES], i: usize, n: usize, step: usiz
     pack(w, false, left, n - left, n, count, step, card);
 }
 
+// Whether the lower limit of cell c is no higher than each upper limit along the cell's line.
+fn cell_fits(w: &[u8], high: usize, c: usize, on: Along) -> bool
+    requires { (c < length w.now) × LineOn w.now high c on }
+    ensures { result ≡ leb (at w.now c) (least_on w.now high c on) }
+{
+    !lines::below_at(w, high, c, on, w[c])
+}
+
 // Whether condition i can be dropped: no lower grade is above the least upper grade over it.
 fn can_drop(w: &[u8], ks: [u8; PLACES], i: usize, n: usize, step: usize) -> bool
     requires { Counts ks i n step × Room w.now ks n }
     ensures { result ≡ fits ks (merged i (front_stage ks w.now)) }
 {
-    let mut on = lines::first(step, ks[i] as usize);
-    for c in 0..n {
-        if lines::below_at(w, n, c, on, w[c]) {
-            return false;
-        }
-        on = lines::next(on);
-    }
-    true
+    walk::all_cells(n, step, ks[i] as usize, |c, on| cell_fits(w, n, c, on))
 }
 
 // Drops condition i if that may be: whether it was.
@@ -73,14 +77,11 @@ fn drop_if_possible(w: &mut [u8], ks: [u8; PLACES], i: usize, n: usize, step: us
     requires { Counts ks i n step × Room w.old ks n }
     ensures { Turned (drop_one i) ks w.old (cond result (without (singleton i) ks) ks) w.new }
 {
-    if ks[i] < 2 {
-        return false;
-    }
-    if can_drop(w, ks, i, n, step) {
+    let dropped = 1 < ks[i] && can_drop(w, ks, i, n, step);
+    if dropped {
         drop_condition(w, ks, i, n, step);
-        return true;
     }
-    false
+    dropped
 }
 
 // The same for the condition of a stage that has one, or none: whether it was dropped.
@@ -88,10 +89,7 @@ pub fn drop_last(w: &mut [u8], ks: [u8; PLACES], n: usize, low: Condition) -> bo
     requires { Room w.old ks n × IsLowest ks low × (low.values ≡ n) }
     ensures { Turned left ks w.old (cond result (without (singleton low.number) ks) ks) w.new × (result ≡ true → low.number < 8) }
 {
-    if PLACES <= low.number {
-        return false;
-    }
-    drop_if_possible(w, ks, low.number, n, 1)
+    low.number < PLACES && drop_if_possible(w, ks, low.number, n, 1)
 }
 
 // The stage with its conditions left, under its limits from then on.
@@ -102,13 +100,13 @@ pub fn drop_all(w: &mut [u8], ks: [u8; PLACES], c: usize) -> Left
     let mut left = ks;
     let mut n = c;
     let mut step: usize = 1;
+    // By index: the places change as the loop goes on.
     for i in 0..PLACES {
         if drop_if_possible(w, left, i, n, step) {
-            let next = sets::without(left, sets::singleton(i));
-            left = next;
+            left = sets::without_one(left, i);
             n = places::cell_count(left);
         }
-        step = step * (left[i] as usize);
+        step *= left[i] as usize;
     }
     Left {
         places: left,

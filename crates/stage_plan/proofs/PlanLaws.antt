@@ -4,16 +4,15 @@ use mathlib.Core.Path.{◌≡◌, refl, sym, ◌∙◌, ap, ap₂, subst}
 use mathlib.Core.Bool.{Bool, true, false, cond, not, ◌&&◌}
 use mathlib.Core.List.{List}
 use native.Mathlib.Omega.{arith}
-use borrow.Author.Tests.{not-true, lt-ltb, le-ltb}
+use borrow.Author.Tests.{not-true}
 use lib.Dec.{T, ltb, ltb→lt}
 use lib.ListN.{length}
 use Rattle.rules.specs.declared.Gate.TheVariants.{Min, Max}
 use Rattle.rules.specs.declared.Settings.{Settings}
 use Rattle.rules.specs.Bytes.{at}
-use Rattle.rules.specs.Cell.{cells, width, lowest, has, singleton, without}
+use Rattle.rules.specs.Cell.{cells, width, lowest, singleton, without}
 use Rattle.rules.specs.Stage.{Stage, left, split, chosen}
 use Rattle.laws.proofs.TestLaws.{and_l, and_r, passed}
-use Rattle.laws.proofs.GateLaws.{Good}
 use Rattle.laws.proofs.CellLaws.{present_lt}
 use Rattle.laws.proofs.LastLaws.{only_lowest}
 use Rattle.laws.proofs.LowestLaws.{no_width, lowest-present, lowest-width, some_left, narrow-left, wide-left}
@@ -31,7 +30,6 @@ use Rattle.stage_drops.proofs.DropLaws.{stage_of, fewer-shaped, as_shaped}
 use Rattle.stage_choice.specs.declared.Choice.{Choice}
 use Rattle.stage_choice.specs.declared.Choice.TheVariants.{Leaf, Split, Join}
 use Rattle.stage_choice.specs.Choosing.{Chosen}
-use Rattle.stage_plan.specs.declared.Plan.{Plan}
 use Rattle.stage_plan.specs.Planning.{Ordered, Learnt, both_full, keeps_last, Leaves, Doing, Planned, Ends}
 
 proper-ready : {m : ℕ} {x : Stage} → Shaped x.ks → Proper m x → Ready m x
@@ -69,9 +67,6 @@ module _ {ks w : List ℕ} {n : ℕ} (room : Room w ks n) where
 
   pub room-same : {w' : List ℕ} → length w' ≡ length w → Room w' ks n
   room-same e = let r = room.room in record { shaped = room.shaped; own = room.own; room = omega arith }
-
-pub learnt_known : {ks w : List ℕ} {known : Bool} → known ≡ true → Learnt ks known w w
-learnt_known e = record { masks = λ m h k. k e; stage = refl; len = refl }
 
 -- what a stage finds: its limits, where none or one condition is left; and what was chosen
 module _ {ks w : List ℕ} {n : ℕ} {low : Condition} (room : Room w ks n) (is : IsLowest ks low) where
@@ -124,10 +119,6 @@ module _ {m : ℕ} {ks w : List ℕ} {n : ℕ} (room : Room w ks n) (proper : Pr
       let r = left-ready m (front_stage ks w) (proper-ready room.shaped proper) in
       subst (Proper m) (sym t.stage) (record { some = r.grades; ordered = r.good.room; top = r.good.top })
 
-  pub left-planned : {how : Settings} {k : ℕ} {low : Condition} {r : Choice} {w' : List ℕ} → k ≡ cells l → IsLowest l low → Doing how m (front_stage l w₁) w₁ r w'
-      → Planned how m ks w (record { places = l; cells = k; low = low; choice = r }) w'
-  left-planned e is d = record { places = places; own = e; lowest = is; does = does-same t.stage t.len d }
-
 -- none was
 module _ {how : Settings} {m : ℕ} {ks w : List ℕ} {n : ℕ} {low : Condition} (room : Room w ks n) (is : IsLowest ks low) (none : left (front_stage ks w) ≡ front_stage ks w) where
   pub planned : {r : Choice} {w' : List ℕ} → Doing how m (front_stage ks w) w r w' → Planned how m ks w (record { places = ks; cells = n; low = low; choice = r }) w'
@@ -159,17 +150,6 @@ module _ {m : ℕ} {ks w : List ℕ} {n : ℕ} {low : Condition} (room : Room w 
   seen_none {s} u e =
       seen_left ks m (front_stage ks w).limits eight (part w (2 * cells ks) (cells ks)) s (masks.masks Max)
       (subst (λ (k : ℕ). Union k (part w (2 * k) k) every s) room.own u) (ap (λ (k : ℕ). is_full_from k s) (sym is.number) ∙ e)
-
--- whether the masks tell that the last condition stays
-module _ (w : List ℕ) (n i : ℕ) {known : Bool} where
-  pub keeps_unknown : known ≡ false → false ≡ keeps_last w n i known
-  keeps_unknown e = ap (λ (k : Bool). k && (ltb i 8 && not (none_has n (part w (2 * n) n) i))) (sym e)
-
-  pub keeps-none : known ≡ true → 8 ≤ i → false ≡ keeps_last w n i known
-  keeps-none e l = sym (ap₂ (λ (k b : Bool). k && (b && not (none_has n (part w (2 * n) n) i))) e (le-ltb i 8 l))
-
-  pub keeps_seen : {s : ℕ} {r : Bool} → known ≡ true → i < 8 → Union n (part w (2 * n) n) every s → r ≡ has s i → r ≡ keeps_last w n i known
-  keeps_seen e l u h = h ∙ u.has-is i ∙ sym (ap₂ (λ (k b : Bool). k && (b && not (none_has n (part w (2 * n) n) i))) e (lt-ltb i 8 l))
 
 -- of a stage with one condition, a mask has it
 module _ {m : ℕ} {ks w : List ℕ} {n : ℕ} {low : Condition} {known : Bool} (room : Room w ks n) (is : IsLowest ks low) (all : low.values ≡ n) (eight : length ks ≡ 8) where
@@ -251,13 +231,3 @@ module _ {ks w w' : List ℕ} (b : List ℕ) {r : Bool} where
 
   pub dropped_no : r ≡ false → Turned left ks w (cond r b ks) w' → Turned left ks w ks w'
   dropped_no e t = subst (λ (q : Bool). Turned left ks w (cond q b ks) w') e t
-
--- the same stage at the front of another buffer
-pub planned-same : {how : Settings} {m : ℕ} {ks v w : List ℕ} {r : Plan} {w' : List ℕ} → front_stage ks v ≡ front_stage ks w → length v ≡ length w → Planned how m ks v r w' → Planned how m ks w r w'
-planned-same e l p =
-    record {
-      places = p.places ∙ ap (λ (x : Stage). (left x).ks) e;
-      own = p.own;
-      lowest = p.lowest;
-      does = does-same (ap left e) l p.does;
-    }

@@ -26,15 +26,27 @@ pub struct Plan {
     pub choice: Choice,
 }
 
+impl Plan {
+    fn new(places: [u8; PLACES], cells: usize, low: Condition, choice: Choice) -> Plan
+        ensures { result ≡ record { places = places; cells = cells; low = low; choice = choice } }
+    {
+        Plan {
+            places,
+            cells,
+            low,
+            choice,
+        }
+    }
+}
+
 // The masks of the stage at the front, made unless they are known.
 fn learn(w: &mut [u8], ks: [u8; PLACES], n: usize, known: bool)
     requires { Room w.old ks n × Ordered w.old n }
     ensures { Learnt ks known w.old w.new }
 {
-    if known {
-        return;
+    if !known {
+        mask_making::make(w, ks, n);
     }
-    mask_making::make(w, ks, n);
 }
 
 // Whether some mask for max and some for min have every condition from k on.
@@ -42,10 +54,7 @@ fn both_full(w: &[u8], n: usize, k: usize) -> bool
     requires { (k < 8) × (4 * n ≤ length w.now) }
     ensures { result ≡ both_full w.now n k }
 {
-    if tests::some_full(w, 2 * n, n, k) {
-        return tests::some_full(w, 3 * n, n, k);
-    }
-    false
+    tests::some_full(w, 2 * n, n, k) && tests::some_full(w, 3 * n, n, k)
 }
 
 // What the stage at the front does, whose conditions are left.
@@ -70,12 +79,7 @@ fn reduce(w: &mut [u8], ks: [u8; PLACES], m: u8, n: usize, how: u8) -> Plan
     let cells = kept.cells;
     let low = sets::lowest(places);
     let choice = choose_left(w, places, m, cells, low, how);
-    Plan {
-        places,
-        cells,
-        low,
-        choice,
-    }
+    Plan::new(places, cells, low, choice)
 }
 
 // The plan of a stage that has one condition, or none.
@@ -85,19 +89,9 @@ fn end(w: &mut [u8], ks: [u8; PLACES], n: usize, low: Condition) -> Plan
 {
     if stage_drops::drop_last(w, ks, n, low) {
         let none = sets::without_one(ks, low.number);
-        return Plan {
-            places: none,
-            cells: 1,
-            low: sets::lowest(none),
-            choice: Choice::Leaf,
-        };
+        return Plan::new(none, 1, sets::lowest(none), Choice::Leaf);
     }
-    Plan {
-        places: ks,
-        cells: n,
-        low,
-        choice: Choice::Leaf,
-    }
+    Plan::new(ks, n, low, Choice::Leaf)
 }
 
 // The plan of a stage that has two conditions or more and knows its masks.
@@ -106,22 +100,12 @@ fn plan_known(w: &mut [u8], ks: [u8; PLACES], m: u8, n: usize, low: Condition, h
     ensures { Planned (settings_of how) m ks w.old result w.new }
 {
     if both_full(w, n, low.number) {
-        return Plan {
-            places: ks,
-            cells: n,
-            low,
-            choice: Choice::Split,
-        };
+        return Plan::new(ks, n, low, Choice::Split);
     }
     let seen = tests::seen(w, 2 * n, n);
     if tests::full(seen, low.number) {
         let choice = stage_choice::choose(w, ks, m, n, how);
-        return Plan {
-            places: ks,
-            cells: n,
-            low,
-            choice,
-        };
+        return Plan::new(ks, n, low, choice);
     }
     reduce(w, ks, m, n, how)
 }
@@ -131,13 +115,7 @@ fn keeps_last(w: &[u8], n: usize, low: Condition, known: bool) -> bool
     requires { 4 * n ≤ length w.now }
     ensures { result ≡ keeps_last w.now n low.number known }
 {
-    if !known {
-        return false;
-    }
-    if PLACES <= low.number {
-        return false;
-    }
-    places::has_member(tests::seen(w, 2 * n, n), low.number)
+    known && low.number < PLACES && places::has_member(tests::seen(w, 2 * n, n), low.number)
 }
 
 // The plan of the stage over ks, of n cells, whose limits are at the front of the work buffer and, where they are
@@ -149,12 +127,7 @@ pub fn plan_stage(w: &mut [u8], ks: [u8; PLACES], m: u8, n: usize, known: bool, 
     let low = sets::lowest(ks);
     if low.values == n {
         if keeps_last(w, n, low, known) {
-            return Plan {
-                places: ks,
-                cells: n,
-                low,
-                choice: Choice::Leaf,
-            };
+            return Plan::new(ks, n, low, Choice::Leaf);
         }
         return end(w, ks, n, low);
     }

@@ -1,12 +1,13 @@
 -- The search for the condition with most values.
 use Prim.Native.Nat.{ℕ, ◌+◌, ◌*◌, ◌≤◌, ◌<◌}
-use mathlib.Core.Path.{◌≡◌, sym, ◌∙◌, ap, subst}
+use mathlib.Core.Path.{◌≡◌, refl, sym, ◌∙◌, ap, subst}
 use mathlib.Core.List.{List}
+use native.Mathlib.Nat.{one-mul}
 use native.Mathlib.Omega.{arith}
 use borrow.Author.Count.{below_more}
 use lib.ListN.{length, get_or}
 use Rattle.rules.specs.Cell.{Positive, cells, card, width, step, lowest, most_values}
-use Rattle.laws.proofs.TestLaws.{by_order}
+use Rattle.laws.proofs.TestLaws.{by_order, by_equal}
 use Rattle.laws.proofs.CellLaws.{card_pos}
 use Rattle.laws.proofs.NumberLaws.{card_past}
 use Rattle.laws.proofs.LoopLaws.{card_read, step_le, step_start, step-more}
@@ -25,6 +26,9 @@ pub record Seeking (ks : List ℕ) (i : ℕ) (found : Cut) (stp : ℕ) : Type 0 
   pub most : (j : ℕ) → j < i → card ks j ≤ found.values
   pub first : (j : ℕ) → j < found.number → card ks j < found.values
   pub next : stp ≡ step ks i
+
+abbrev the_cut : ℕ → ℕ → ℕ → Cut
+the_cut i v s = record { number = i; values = v; step = s }
 
 module _ (ks : List ℕ) (eight : length ks ≡ 8) where
   read : (i : ℕ) → i < 8 → get_or ks i 0 ≡ card ks i
@@ -78,9 +82,37 @@ module _ (ks : List ℕ) (eight : length ks ≡ 8) where
         (λ le. subst (λ (q : Cut). Seeking ks (i + 1) q (stp * v)) (sym (b.kept (λ h. omega arith))) (seek_kept (λ h. omega arith)))
         (λ lt. subst (λ (q : Cut). Seeking ks (i + 1) q (stp * v)) (sym (b.taken lt)) (seek_taken lt))
 
-    -- the product is a step, so at most the number of cells
-    pub seek_low : Positive ks → stp * v ≤ cells ks
-    seek_low pos = let e = next-step in let h = step_le ks (i + 1) pos in omega arith
+  -- the same with nothing found yet
+  pub record Sought (i : ℕ) (found : Cut) (stp : ℕ) : Type 0 where
+    pub none : i ≡ 0 → (found ≡ record { number = 0; values = 0; step = 1 }) × (stp ≡ 1)
+    pub some : 0 < i → Seeking ks i found stp
+
+  pub sought_none : Sought 0 (record { number = 0; values = 0; step = 1 }) 1
+  sought_none = record { none = λ _. (refl, refl); some = λ h. absurd (omega arith) }
+
+  module _ {found next : Cut} {stp v : ℕ} (pos : Positive ks) where
+    begun : v ≡ get_or ks 0 0 → (found ≡ record { number = 0; values = 0; step = 1 }) × (stp ≡ 1) → Better found 0 v stp next → Seeking ks 1 next (stp * v)
+    begun e n b =
+        let some : 0 < v = omega (arith, e, read 0 (omega arith), card_pos ks 0 pos) in
+        let none : found.values ≡ 0 = ap (λ (f : Cut). f.values) n.0 in
+        let q : next ≡ record { number = 0; values = v; step = 1 } = b.taken (omega arith) ∙ ap (λ (x : ℕ). the_cut 0 v x) n.1 in
+        rw (q, n.1, one-mul v) (seek_first e)
+
+    pub sought_more : {i : ℕ} → i < 8 → Sought i found stp → v ≡ get_or ks i 0 → Better found i v stp next → Sought (i + 1) next (stp * v)
+    sought_more {i} lt s e b =
+        record {
+          none = λ z. absurd (omega arith);
+          some = λ _.
+              by_equal i 0
+              (λ z.
+              subst (λ (j : ℕ). Seeking ks j next (stp * v)) (let o : 1 ≡ i + 1 = omega arith in o)
+              (begun (subst (λ (j : ℕ). v ≡ get_or ks j 0) z e) (s.none z) (subst (λ (j : ℕ). Better found j v stp next) z b)))
+              (λ n. seek_more lt (s.some (omega arith)) e b);
+        }
+
+  -- the product is a step, so at most the number of cells
+  pub sought_low : {i : ℕ} {found : Cut} {stp : ℕ} → Positive ks → 0 < i → Sought i found stp → stp ≤ cells ks
+  sought_low {i} pos h s = omega (arith, (s.some h).next, step_le ks i pos)
 
   pub seek_all : {found : Cut} {stp : ℕ} → Positive ks → Seeking ks 8 found stp → IsCut ks (most_values ks) found
   seek_all {found} pos s =

@@ -18,36 +18,35 @@ pub struct Cut {
 }
 
 // Of two conditions the one with more values, the first where they have as many.
-fn better(found: Cut, i: usize, values: usize, step: usize) -> Cut
-    ensures { Better found i values step result }
+fn better(found: Cut, other: Cut) -> Cut
+    ensures { Better found other.number other.values other.step result }
 {
-    if found.values < values {
-        return Cut {
-            number: i,
-            values,
-            step,
-        };
+    if found.values < other.values {
+        return other;
     }
     found
 }
 
-// The condition with most values, the lowest of them.
+// The condition with most values, the lowest of them. The first place is better than what is found before it.
 fn most_values(ks: [u8; PLACES]) -> Cut
     requires { Shaped ks }
     ensures { IsCut ks (most_values ks) result }
 {
-    let first = ks[0] as usize;
     let mut found = Cut {
         number: 0,
-        values: first,
+        values: 0,
         step: 1,
     };
-    let mut step = first;
-    for i in 1..PLACES {
-        let values = ks[i] as usize;
-        let next = better(found, i, values, step);
-        found = next;
-        step = step * values;
+    let mut step: usize = 1;
+    for (number, card) in ks.iter().enumerate() {
+        let values = usize::from(*card);
+        let cut = Cut {
+            number,
+            values,
+            step,
+        };
+        found = better(found, cut);
+        step *= values;
     }
     found
 }

@@ -20,16 +20,10 @@ pub fn leaf(w: &[u8], network: &mut [u8], low: Condition, r: usize) -> Extent
 {
     if PLACES <= low.number {
         put_constant(network, r, w[0]);
-        return Extent {
-            next: r + 1,
-            depth: 0,
-        };
+        return Extent::of_record(r);
     }
     put_literal(network, r, low.number as u8, w, low.values);
-    Extent {
-        next: r + 1,
-        depth: 0,
-    }
+    Extent::of_record(r)
 }
 
 // The join's function, from its blocks', where it is wanted.

@@ -1,5 +1,5 @@
 // The gates over networks that stand one behind the other.
-ghost use Rattle.std.specs.Prelude.{max, ◌≡◌};
+ghost use Rattle.std.specs.Prelude.{◌+◌, ◌<◌, ◌≡◌};
 ghost use Rattle.stage_steps.specs.Extents.{GateRoom, GatePut};
 
 use network_records::put_gate;
@@ -12,10 +12,17 @@ pub struct Extent {
     pub depth: usize,
 }
 
-fn deeper(a: usize, b: usize) -> usize
-    ensures { result ≡ max a b }
-{
-    if a < b { b } else { a }
+impl Extent {
+    // That of record r alone, which is no gate.
+    pub fn of_record(r: usize) -> Extent
+        requires { r < 65536 }
+        ensures { result ≡ record { next = r + 1; depth = 0 } }
+    {
+        Extent {
+            next: r + 1,
+            depth: 0,
+        }
+    }
 }
 
 // The gate over two networks, right behind the second.
@@ -26,6 +33,6 @@ pub fn gate_over(network: &mut [u8], by: Gate, left: Extent, right: Extent) -> E
     put_gate(network, right.next, by, left.next - 1, right.next - 1);
     Extent {
         next: right.next + 1,
-        depth: deeper(left.depth, right.depth) + 1,
+        depth: left.depth.max(right.depth) + 1,
     }
 }

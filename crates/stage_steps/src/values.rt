@@ -38,10 +38,7 @@ pub fn begin_value(
     } else {
         value_rows::lay(w, c, n, step, values, k, i, TABLES);
     }
-    Extent {
-        next: r + 1,
-        depth: 0,
-    }
+    Extent::of_record(r)
 }
 
 // The function of value k's stage, from 8 × c, at the cells with that value of the table in part 4, where it is

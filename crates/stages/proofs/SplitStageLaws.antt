@@ -25,9 +25,7 @@ use Rattle.laws.proofs.SplitLaws.{cofactor_lt, cofactor-value, cofactor_of, cofa
 use Rattle.laws.proofs.WeakLaws.{one_fewer}
 use Rattle.laws.proofs.StageLaws.{Ready, cofactor-ready}
 use Rattle.laws.proofs.FunctionLaws.{splitted}
-use Rattle.places.specs.declared.sets.Condition.{Condition}
-use Rattle.places.specs.Conditions.{IsLowest}
-use Rattle.tables.specs.Part.{part, Laid, stage_at, Shaped}
+use Rattle.tables.specs.Part.{part, Laid, stage_at}
 use Rattle.tables.proofs.PartLaws.{part_at, part_same, part_length, laid-part}
 use Rattle.moves.specs.Row.{in_row, Rows, Scattered}
 use Rattle.masks.specs.Masks.{Beside, Known}
@@ -179,17 +177,11 @@ module _ {how : Settings} {m a : ℕ} {ks : List ℕ} {c : ℕ} {w₀ : List ℕ
       let l = mul-le-mul_right (cells b) two in
       record { half = omega arith; fewer = one_fewer ks a h.there }
 
-  pub cut-room : {low : Condition} → IsLowest ks low → Shaped ks × IsLowest ks low × (1 ≤ width ks)
-  cut-room low = (h.whole.left.own.shaped, low, let w = h.whole.left.wide in omega arith)
-
   pub number-below : length ks ≡ 8 → a < 8
   number-below e = let l = present_lt ks a h.there in omega arith
 
   -- so from the condition, by its values and the cells of a row
   module _ {on : Cut} (is : IsCut ks a on) where
-    pub values-some : 0 < on.values
-    values-some = let t = two in let v = is.values in omega arith
-
     pub axis : {b₀ : List ℕ} → length ks ≡ 8 → b₀ ≡ without (singleton a) ks → Axis ks a b₀ (c / on.values) on.step on.values
     axis eight e =
         record {

@@ -9,7 +9,7 @@ use lib.ListN.{length}
 use Rattle.rules.specs.declared.Gate.{Gate}
 use Rattle.rules.specs.declared.Settings.{Settings}
 use Rattle.rules.specs.Bytes.{at, tabulate}
-use Rattle.rules.specs.Cell.{cells, card, present, width, step, lowest, moved}
+use Rattle.rules.specs.Cell.{cells, card, present, width, lowest, moved}
 use Rattle.rules.specs.Tree.{Tree}
 use Rattle.rules.specs.Demands.{Admits}
 use Rattle.rules.specs.Stage as rules
@@ -24,14 +24,13 @@ use Rattle.laws.proofs.KeepLaws.{left-half, may_cells}
 use Rattle.laws.proofs.FuelLaws.{network-left, built}
 use Rattle.laws.proofs.FunctionLaws.{spread, leaf}
 use Rattle.laws.proofs.SplitLaws.{split-present}
-use Rattle.places.specs.Conditions.{IsLowest}
 use Rattle.tables.specs.Part.{part, Shaped}
 use Rattle.tables.proofs.PartLaws.{part_length}
 use Rattle.masks.specs.Masks.{Known}
 use Rattle.grouping.specs.declared.Sets.{Sets}
 use Rattle.stage_choice.specs.declared.Choice.{Choice}
 use Rattle.stage_choice.specs.declared.Choice.TheVariants.{Leaf, Split, Join}
-use Rattle.stage_drops.specs.Working.{Room, front_stage, Proper}
+use Rattle.stage_drops.specs.Working.{front_stage}
 use Rattle.stage_drops.proofs.DropLaws.{as_shaped}
 use Rattle.stage_plan.specs.declared.Plan.{Plan}
 use Rattle.stage_plan.specs.Planning.{Leaves, Splitting, Joining, Finds, Planned}
@@ -72,9 +71,6 @@ module _ {how : Settings} {m : ℕ} {ks : List ℕ} {c : ℕ} {known may : Bool}
 
   shrunk : Shrunk x y
   shrunk = left_shrunk x ready.pos
-
-  pub plan_room : Room w ks c × Proper m (front_stage ks w) × (known ≡ true → Known m ks w)
-  plan_room = let q = s.work in let e = s.own in (record { shaped = s.shaped; own = e; room = omega arith }, s.proper, s.masks)
 
   module _ {o : Plan} {w₁ : List ℕ} (p : Planned how m ks w o w₁) where
     abbrev l : List ℕ

@@ -6,6 +6,7 @@ use mathlib.Core.List.{List}
 use native.Mathlib.Omega.{arith}
 use borrow.Author.Tests.{lt-ltb, le-ltb}
 use lib.Dec.{T}
+use Rattle.std.specs.Prelude.{Option}
 use lib.ListN.{length}
 use Rattle.rules.specs.declared.Gate.{Gate}
 use Rattle.rules.specs.declared.Settings.{Settings}
@@ -30,9 +31,9 @@ use Rattle.stage_steps.specs.declared.gates.Extent.{Extent}
 use Rattle.stage_steps.specs.Extents.{ExtentOf, TreePut}
 use Rattle.stage_steps.proofs.WantLaws.{wanted-length}
 use Rattle.weak_joins.specs.declared.Candidates.{Candidates}
-use Rattle.weak_joins.specs.declared.Weak as searched
+use Rattle.weak_joins.specs.declared.WeakJoin.{WeakJoin}
 use Rattle.weak_joins.specs.Trying.{weak_of}
-use Rattle.weak_joins.specs.Opening.{Turned, Opened, Reopened, CanRestore, Restored}
+use Rattle.weak_joins.specs.Opening.{Turned, Opened, Reopened, Restored}
 use Rattle.weak_joins.specs.Keeping.{Kept}
 use Rattle.stages.specs.Staging.{Written, Numbered, Left, Joins, Joined, Splits, Divided, Tries, Counted, tried_if, Divides}
 use Rattle.stages.proofs.ChildLaws.{proper-ready, smaller, divide_rank}
@@ -232,14 +233,11 @@ module _ {how : Settings} {m a : ℕ} {ks : List ℕ} {i c : ℕ} {w₀ : List �
       weak-written {want} {net} {e} {w₃} {net'} j =
           subst (λ (t : Tree). Written ks t 0 want w₀ net r e w₃ net') (sym (weak-is k l)) (written_from (o.len ∙ k.len) (j.whole x.limits weak_writes))
 
-    -- the split
-    pub restore_room : Room w₁ ks c × CanRestore gate m ks c w₁
-    restore_room = (here, record { limits = x.limits; proper = h.whole.left.proper; turned = k.limits refl })
-
     module _ (l : of.split.next ≤ of.weak.next) {w₂ : List ℕ} (o : Restored gate m ks c w₁ w₂) where
       again : (front_stage ks w₂ ≡ x) × Known m ks w₂
       again = o.stage w₀ h.whole.left.own.room h.whole.left.proper (k.limits refl)
 
+      -- the split
       pub split_writes : Splits how m a ks c w₂ r
       split_writes =
           record {
@@ -254,7 +252,7 @@ module _ {how : Settings} {m a : ℕ} {ks : List ℕ} {i c : ℕ} {w₀ : List �
           subst (λ (t : Tree). Written ks t 0 want w₀ net r e w₃ net') (ap (split_tree m (tree_of how m) a) again.0 ∙ sym (split-is k l)) (written_from (o.len ∙ k.len) y)
 
 -- what a search has found, by its case
-pub known_as : {a b : searched.Weak} {q : Weak} → a ≡ b → weak_of a ≡ q → weak_of b ≡ q
+pub known_as : {a b : Option WeakJoin} {q : Weak} → a ≡ b → weak_of a ≡ q → weak_of b ≡ q
 known_as e f = ap weak_of (sym e) ∙ f
 
 -- whether one is tried

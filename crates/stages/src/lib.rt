@@ -22,7 +22,7 @@ use stage_choice::Choice;
 use stage_steps::cuts::Cut;
 use stage_steps::gates::Extent;
 use stage_steps::{cuts, ends, values};
-use weak_joins::{Candidates, Weak};
+use weak_joins::{Candidates, WeakJoin};
 
 // How a stage begins. One that a split starts finds its masks behind its limits; another makes them. The first block
 // of a weak join may take no weak join itself until it has lost a condition. One argument for both: a stage has many,
@@ -34,25 +34,19 @@ pub enum Begin {
     Tight,
 }
 
-// Whether the masks are known.
-fn masked(begin: Begin) -> bool
-    ensures { result ≡ is_masked begin }
-{
-    match begin {
-        Begin::Masked => true,
-        Begin::Fresh => false,
-        Begin::Tight => false,
+impl Begin {
+    // Whether the masks are known.
+    fn is_masked(self) -> bool
+        ensures { result ≡ is_masked self }
+    {
+        matches!(self, Begin::Masked)
     }
-}
 
-// Whether a weak join may be taken.
-fn may_take(begin: Begin) -> bool
-    ensures { result ≡ may_take begin }
-{
-    match begin {
-        Begin::Masked => true,
-        Begin::Fresh => true,
-        Begin::Tight => false,
+    // Whether a weak join may be taken.
+    fn may_take(self) -> bool
+        ensures { result ≡ may_take self }
+    {
+        !matches!(self, Begin::Tight)
     }
 }
 
@@ -183,7 +177,7 @@ fn alone(i: usize) -> Sets
     }
 }
 
-// The split and the weak join by a gate at condition i, counted: both are lent a network buffer without a byte. Where
+// The split and a weak join, counted: both are lent a network buffer without a byte. Where
 // functions are wanted, the weak join's is at the front and the split's in part 4; where not, the limits are still
 // there, as the weak join wants them.
 #[cycle(count_both_divide_join_shorter_split_stage)]
@@ -193,25 +187,24 @@ fn count_both(
     low: Condition,
     m: u8,
     c: usize,
-    gate: Gate,
-    i: usize,
+    tried: WeakJoin,
     want: bool,
     how: u8,
 ) -> Candidates
-    requires { Tries (settings_of how) m (splits_on how ks) ks i c w.old × IsLowest ks low }
-    ensures { Counted (settings_of how) gate m (splits_on how ks) ks i c want w.old result w.new }
+    requires { Tries (settings_of how) m (splits_on how ks) ks tried.condition c w.old × IsLowest ks low }
+    ensures { Counted (settings_of how) tried.gate m (splits_on how ks) ks tried.condition c want w.old result w.new }
 {
     let mut none = [0u8; 0];
     let split = split(w, &mut none, ks, low, m, c, 0, want, how);
-    weak_joins::open(w, gate, m, ks, i, c);
+    weak_joins::open(w, tried.gate, m, ks, tried.condition, c);
     let weak = join(
         w,
         &mut none,
         ks,
         m,
         c,
-        gate,
-        alone(i),
+        tried.gate,
+        alone(tried.condition),
         Begin::Tight,
         0,
         want,
@@ -220,7 +213,7 @@ fn count_both(
     Candidates { split, weak }
 }
 
-// The weak join by a gate at condition i, if it has fewer records than the split, else the split. Nothing is written
+// The weak join, if it has fewer records than the split, else the split. Nothing is written
 // before both are counted. Where nothing will be, the function of the one that is kept need not be made again.
 #[cycle(count_both_divide_join_shorter_split_stage)]
 fn shorter(
@@ -230,37 +223,36 @@ fn shorter(
     low: Condition,
     m: u8,
     c: usize,
-    gate: Gate,
-    i: usize,
+    tried: WeakJoin,
     r: usize,
     want: bool,
     how: u8,
 ) -> Extent
-    requires { Tries (settings_of how) m (splits_on how ks) ks i c w.old × IsLowest ks low × Numbered (fewest m (tree_of (settings_of how) m) (weakly gate i) (splits_on how ks) (front_stage ks w.old)) r }
-    ensures { Written ks (fewest m (tree_of (settings_of how) m) (weakly gate i) (splits_on how ks) (front_stage ks w.old)) 0 want w.old network.old r result w.new network.new }
+    requires { Tries (settings_of how) m (splits_on how ks) ks tried.condition c w.old × IsLowest ks low × Numbered (fewest m (tree_of (settings_of how) m) (weakly tried.gate tried.condition) (splits_on how ks) (front_stage ks w.old)) r }
+    ensures { Written ks (fewest m (tree_of (settings_of how) m) (weakly tried.gate tried.condition) (splits_on how ks) (front_stage ks w.old)) 0 want w.old network.old r result w.new network.new }
 {
     if network.len() == 0 {
-        let counted = count_both(w, ks, low, m, c, gate, i, want, how);
+        let counted = count_both(w, ks, low, m, c, tried, want, how);
         return weak_joins::keep(w, counted, c, r, want);
     }
-    let counted = count_both(w, ks, low, m, c, gate, i, false, how);
+    let counted = count_both(w, ks, low, m, c, tried, false, how);
     if counted.weak.next < counted.split.next {
-        weak_joins::reopen(w, ks, i, c);
+        weak_joins::reopen(w, ks, tried.condition, c);
         return join(
             w,
             network,
             ks,
             m,
             c,
-            gate,
-            alone(i),
+            tried.gate,
+            alone(tried.condition),
             Begin::Tight,
             r,
             want,
             how,
         );
     }
-    weak_joins::restore(w, gate, m, ks, c);
+    weak_joins::restore(w, tried.gate, m, ks, c);
     let of = split(w, network, ks, low, m, c, r, want, how);
     values::collect(w, want, c);
     of
@@ -284,8 +276,8 @@ fn divide(
     ensures { Written ks (fewest m (tree_of (settings_of how) m) (tried_if m sought (front_stage ks w.old)) (splits_on how ks) (front_stage ks w.old)) 0 want w.old network.old r result w.new network.new }
 {
     match weak_joins::first_weak(w, ks, m, c, sought) {
-        Weak::At(gate, i) => shorter(w, network, ks, low, m, c, gate, i, r, want, how),
-        Weak::Nowhere => {
+        Some(tried) => shorter(w, network, ks, low, m, c, tried, r, want, how),
+        None => {
             let of = split(w, network, ks, low, m, c, r, want, how);
             values::collect(w, want, c);
             of
@@ -298,10 +290,7 @@ fn divide(
 fn tries(how: u8, begin: Begin, n: usize, c: usize) -> bool
     ensures { result ≡ ((settings_of how).weak && (may_take begin || ltb n c)) }
 {
-    if !settings::weak(how) {
-        return false;
-    }
-    if may_take(begin) { true } else { n < c }
+    settings::weak(how) && (begin.may_take() || n < c)
 }
 
 // The network of the stage over ks, of c cells, whose limits are at the front of the work buffer and, where they are
@@ -322,7 +311,7 @@ pub fn stage(
     requires { Starts (settings_of how) m ks c (is_masked begin) (may_take begin) w.old r }
     ensures { Written ks (tree_of (settings_of how) m (may_take begin) (front_stage ks w.old)) 0 want w.old network.old r result w.new network.new }
 {
-    let known = masked(begin);
+    let known = begin.is_masked();
     let plan = stage_plan::plan_stage(w, ks, m, c, known, how);
     let left = plan.places;
     let n = plan.cells;

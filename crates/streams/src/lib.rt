@@ -9,28 +9,25 @@ use std::io::{Read, Write};
 // A byte more than the longest table file has, so that a longer input is refused.
 pub const INPUT: usize = 16529;
 
+// Standard input was not read to its end.
 #[derive(Clone, Copy)]
-pub enum Input {
-    // So many bytes of the buffer are the file, or enough of it to tell that it is too long.
-    File(usize),
-    // Standard input was not read to its end.
-    Unread,
-}
+pub struct Unread;
 
-// Of a file that does not fill the buffer, all has to be read: a read that fails is no end.
-pub fn read_file<R: Read>(stdin: &mut R, file: &mut [u8]) -> Input
+// How many bytes of the buffer are the file, or enough of it to tell that it is too long. Of a file that does not
+// fill the buffer, all has to be read: a read that fails is no end.
+pub fn read_file<R: Read>(stdin: &mut R, file: &mut [u8]) -> Result<usize, Unread>
     ensures filled { Filled result file.new }
     ensures taken { Takes (R.remaining stdin.old) result file.new }
 {
     let mut len = 0;
     while len < file.len() {
         match stdin.read(&mut file[len..]) {
-            Ok(0) => return Input::File(len),
+            Ok(0) => return Ok(len),
             Ok(count) => len += count,
-            Err(_) => return Input::Unread,
+            Err(_) => return Err(Unread),
         }
     }
-    Input::File(len)
+    Ok(len)
 }
 
 pub fn complain(stderr: &mut impl Write, text: &[u8]) {

@@ -6,7 +6,7 @@ use mathlib.Core.List.{List, ◌++◌}
 use mathlib.Core.Logic.{◌⊎◌, inl, inr, ⊎_elim}
 use native.Mathlib.Nat.{eq-or-lt_of_le}
 use native.Mathlib.Omega.{arith}
-use borrow.Author.Tests.{eq-eqb, ne_eqb}
+use borrow.Author.Tests.{eq-eqb}
 use lib.Dec.{T, eqb, eqb→eq, eqb_refl}
 use lib.ListN.{length, set, length-set}
 use lib.Seq.{set-append_left, get_or-set_same, get_or-set_other}
@@ -18,13 +18,10 @@ use Rattle.laws.proofs.NumberLaws.{number_lt}
 use Rattle.table_file.specs.Reading.{RecordBelow, ListedBelow}
 
 module _ (r ks : List ℕ) (j : ℕ) (t : List ℕ) where
-  pub laid_cell : at r 0 ≡ 3 → laid_over r ks j t ≡ set t (listed_cell ks r) (at r j)
+  laid_cell : at r 0 ≡ 3 → laid_over r ks j t ≡ set t (listed_cell ks r) (at r j)
   laid_cell e = ap (λ (b : Bool). cond b (set t (listed_cell ks r) (at r j)) t) (eq-eqb (at r 0) 3 e)
 
-  pub laid-other : (at r 0 ≡ 3 → ⊥) → laid_over r ks j t ≡ t
-  laid-other n = ap (λ (b : Bool). cond b (set t (listed_cell ks r) (at r j)) t) (ne_eqb (at r 0) 3 n)
-
-  pub length-laid : length (laid_over r ks j t) ≡ length t
+  length-laid : length (laid_over r ks j t) ≡ length t
   length-laid = cond_ok (λ (l : List ℕ). length l ≡ length t) (eqb (at r 0) 3) (set t (listed_cell ks r) (at r j)) t (λ b. length-set t _ _) (λ n. refl)
 
   -- at a cell that the record names, and at any other
@@ -41,11 +38,14 @@ pub listed_lt : (r ks : List ℕ) → length ks ≡ 8 → RecordBelow r ks → a
 listed_lt r ks eight below e = number_lt ks (λ i. at r (8 + i)) (λ i l. below e i (omega arith))
 
 module _ (file ks : List ℕ) (j : ℕ) where
-  pub listed_next : (k n : ℕ) (t : List ℕ) → k < n → listed_over file ks j k (n - k) t ≡ listed_over file ks j (k + 1) (n - (k + 1)) (laid_over (record_at file k) ks j t)
-  listed_next k n t h =
-      let e : n - k ≡ suc (n - (k + 1)) = omega arith in
-      let f : suc k ≡ k + 1 = omega arith in
-      ap (λ (i : ℕ). listed_over file ks j k i t) e ∙ ap (λ (i : ℕ). listed_over file ks j i (n - (k + 1)) (laid_over (record_at file k) ks j t)) f
+  -- one record more is laid
+  pub listed_next : (k n : ℕ) (r t : List ℕ) {u : List ℕ} → k < n → r ≡ record_at file k → u ≡ laid_over r ks j t → listed_over file ks j (k + 1) (n - (k + 1)) u ≡ listed_over file ks j k (n - k) t
+  listed_next k n r t h is laid =
+      let e : suc (n - (k + 1)) ≡ n - k = omega arith in
+      let f : k + 1 ≡ suc k = omega arith in
+      ap (listed_over file ks j (k + 1) (n - (k + 1))) (laid ∙ ap (λ (x : List ℕ). laid_over x ks j t) is)
+      ∙ ap (λ (i : ℕ). listed_over file ks j i (n - (k + 1)) (laid_over (record_at file k) ks j t)) f
+      ∙ ap (λ (i : ℕ). listed_over file ks j k i t) e
 
   pub length-listed : (k n : ℕ) (t : List ℕ) → length (listed_over file ks j k n t) ≡ length t
   length-listed k zero t = refl

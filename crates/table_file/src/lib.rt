@@ -8,15 +8,9 @@ ghost use Rattle.table_file.specs.Reading.{Read};
 
 use rules::{Edition, RECORD, Refusal};
 use shape::Shape;
-use table_records::Judged;
+use table_records::Seen;
 
 mod writing;
-
-#[derive(Clone, Copy)]
-pub enum TableAnswer {
-    Table(Shape),
-    Refused(Refusal),
-}
 
 // 01, Places where a call stops: the longest table file.
 const MAX_LENGTH: usize = 16528;
@@ -25,41 +19,26 @@ const MAX_LENGTH: usize = 16528;
 const UNLISTED_LOWER: u8 = 1;
 
 // The verdict on a file of an edition, whatever buffers there are for what it holds.
-pub fn judge(file: &[u8], edition: Edition) -> Judged
+pub fn judge(file: &[u8], edition: Edition) -> Result<Seen, Refusal>
     ensures { Judges (judge_file edition file.now) result }
 {
-    if file.len() == 0 {
-        return Judged::Refused(Refusal::FileLength);
-    }
-    if file.len() % RECORD != 0 {
-        return Judged::Refused(Refusal::FileLength);
-    }
-    if MAX_LENGTH < file.len() {
-        return Judged::Refused(Refusal::FileLength);
+    if file.is_empty() || file.len() % RECORD != 0 || MAX_LENGTH < file.len() {
+        return Err(Refusal::FileLength);
     }
     table_records::records(file, edition)
 }
 
 // The shape of the table that a file holds, its limits being written to the two buffers, or why
 // there is none.
-pub fn read_table(file: &[u8], lower: &mut [u8], upper: &mut [u8]) -> TableAnswer
+pub fn read_table(file: &[u8], lower: &mut [u8], upper: &mut [u8]) -> Result<Shape, Refusal>
     ensures { Read file.now lower.old upper.old result lower.new upper.new }
 {
-    match judge(file, Edition::Ours) {
-        Judged::Refused(refusal) => TableAnswer::Refused(refusal),
-        Judged::Accepted(seen) => {
-            let shape = seen.shape;
-            let cells = shape.cells();
-            if lower.len() < cells {
-                return TableAnswer::Refused(Refusal::ShortBuffer);
-            }
-            if upper.len() < cells {
-                return TableAnswer::Refused(Refusal::ShortBuffer);
-            }
-            let ks = shape.places();
-            let top = shape.m - 1;
-            writing::write_limits(file, ks, UNLISTED_LOWER, top, lower, upper);
-            TableAnswer::Table(shape)
-        }
+    let shape = judge(file, Edition::Ours)?.shape;
+    let cells = shape.cells();
+    if lower.len() < cells || upper.len() < cells {
+        return Err(Refusal::ShortBuffer);
     }
+    let top = shape.m - 1;
+    writing::write_limits(file, shape.places(), UNLISTED_LOWER, top, lower, upper);
+    Ok(shape)
 }

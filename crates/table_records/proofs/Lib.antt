@@ -1,3 +1,3 @@
 -- Laws of `table_records`.
-pub mod MiddleLaws
+pub mod RecordLaws
 pub mod SeenLaws

@@ -11,55 +11,38 @@ use borrow.Author.Tests.{eq-eqb, ne_eqb}
 use lib.Dec.{T, T_not, eqb→eq, leb, ltb, eqb, leb→le, ltb→lt}
 use lib.ListN.{length, set, replicate, length-set}
 use lib.Seq.{get_or-set_same, get_or-set_other}
+use Rattle.std.specs.Prelude.{Result, Ok, Err}
 use Rattle.rules.specs.declared.Edition.{Edition}
 use Rattle.rules.specs.declared.Edition.TheVariants.{Ours, Spreadsheet}
 use Rattle.rules.specs.declared.Refusal.{Refusal}
-use Rattle.rules.specs.declared.Refusal.TheVariants.{RecordBytes, RecordOrder, ShapeRange, CellValues}
+use Rattle.rules.specs.declared.Refusal.TheVariants.{RecordBytes}
 use Rattle.rules.specs.Bytes.{at, all, record_at, zeros}
 use Rattle.rules.specs.Cell.{cells, card}
 use Rattle.rules.specs.Shape.{places}
-use Rattle.rules.specs.Verdict.{Verdict, accepted, refused, unless, and_then, granted, answer_of}
-use Rattle.rules.specs.TableFile.{Seen, start, condition_record, grades_record, cell_kind, spare_byte, cell_clear, cell_sound, cell_refusal, cell_record, listed_cell, table_record, table_records}
+use Rattle.rules.specs.Verdict.{Verdict, accepted, refused, unless, and_then, granted, answer_of, verdict_of, says}
+use Rattle.rules.specs.TableFile.{Seen, start, condition_record, grades_record, cell_kind, cell_clear, cell_sound, cell_record, listed_cell, table_record, table_records}
 use Rattle.rules.specs.Editions.{other}
 use Rattle.laws.proofs.TestLaws.{and_l, and_r, cond_ok}
 use Rattle.laws.proofs.TableLaws.{all-at}
 use Rattle.shape.specs.declared.Shape.{Shape}
 use Rattle.shape.specs.Shapes.{shape_from, shape_bytes}
 use Rattle.shape.proofs.ShapeLaws.{cards_from, from_cards}
-use Rattle.table_records.specs.declared.Judged.{Judged}
-use Rattle.table_records.specs.declared.Judged.TheVariants as judged
-use Rattle.table_records.specs.Records.{seen_of, verdict_of, judged_means, seen_values, Judges, InRange}
+use Rattle.table_records.specs.declared.Seen as declared
+use Rattle.table_records.specs.Records.{seen_of, seen_bytes, seen_values, Judges, InRange}
 
 -- what a struct says that was made of eight cardinalities
 pub seen_from : (n : ℕ) (cards : List ℕ) (m next : ℕ) → length cards ≡ 8 → ◌≡◌ {A = Seen} (seen_of (record { shape = shape_from n cards m; next = next })) (record { n = n; cards = cards; m = m; next = next })
 seen_from n cards m next e = ap (λ (l : List ℕ). record { n = n; cards = l; m = m; next = next }) (cards_from n cards m e)
 
 -- the promise of a verdict on records, from the verdict
-judged-means : (r : Judged) → judged_means r ≡ answer_of seen_values (verdict_of r)
-judged-means (judged.Accepted s) = ap (λ (x : Shape). granted (shape_bytes x ++ (s.next ∷ []))) (sym (from_cards s.shape))
-judged-means (judged.Refused q) = refl
+seen-says : (r : Result declared.Seen Refusal) → says seen_bytes r ≡ answer_of seen_values (verdict_of seen_of r)
+seen-says (Ok s) = ap (λ (x : Shape). granted (shape_bytes x ++ (s.next ∷ []))) (sym (from_cards s.shape))
+seen-says (Err q) = refl
 
-pub judges : {v : Verdict Seen} {r : Judged} → verdict_of r ≡ v → Judges v r
-judges {v} {r} e = record { answer = e; means = judged-means r ∙ ap (answer_of seen_values) e }
+pub judges : {v : Verdict Seen} {r : Result declared.Seen Refusal} → verdict_of seen_of r ≡ v → Judges v r
+judges {v} {r} e = record { answer = e; means = seen-says r ∙ ap (answer_of seen_values) e }
 
 module _ (s : Seen) (r : List ℕ) where
-  pub condition_by : (a b c : Bool) → zeros r 3 16 ≡ a → (eqb s.m 0 && eqb (at r 1) s.n) ≡ b
-      → (ltb s.n 8 && ((leb 2 (at r 2) && leb (at r 2) 8) && leb (cells (places s.cards) * at r 2) 1024)) ≡ c
-      → condition_record s r
-      ≡ unless a RecordBytes (unless b RecordOrder (unless c ShapeRange (accepted (record { n = s.n + 1; cards = set s.cards s.n (at r 2); m = s.m; next = s.next }))))
-  condition_by a b c p q t = cc
-
-  pub grades_by : (a b c : Bool) → zeros r 2 16 ≡ a → eqb s.m 0 ≡ b → (leb 2 (at r 1) && leb (at r 1) 16) ≡ c
-      → grades_record s r ≡ unless a RecordBytes (unless b RecordOrder (unless c ShapeRange (accepted (record { n = s.n; cards = s.cards; m = at r 1; next = s.next }))))
-  grades_by a b c p q t = cc
-
-  pub cell_by : (e : Edition) (a b c d : Bool) → (cell_clear e r && zeros r (8 + s.n) 16) ≡ a → eqb s.m 0 ≡ b
-      → (all 8 (λ i. ltb (at r (8 + i)) (card (places s.cards) i)) && leb s.next (listed_cell (places s.cards) r)) ≡ c
-      → cell_sound e s.m r ≡ d
-      → cell_record e s r
-      ≡ unless a RecordBytes (unless (not b) RecordOrder (unless c CellValues (unless d (cell_refusal e) (accepted (record { n = s.n; cards = s.cards; m = s.m; next = listed_cell (places s.cards) r + 1 })))))
-  cell_by e a b c d p q t u = cc
-
   pub record_by : (e : Edition) (a b c : Bool) → eqb (at r 0) 1 ≡ a → eqb (at r 0) 2 ≡ b → eqb (at r 0) (cell_kind e) ≡ c
       → table_record e s r ≡ cond a (condition_record s r) (cond b (grades_record s r) (cond c (cell_record e s r) (refused RecordBytes)))
   record_by e a b c p q t = cc
@@ -76,21 +59,19 @@ two_kinds : (e : Edition) → cell_kind e ≡ cell_kind (other e) → ⊥
 two_kinds Ours q = omega arith
 two_kinds Spreadsheet q = omega arith
 
--- the spare byte is before the values
-pub spare_early : (e : Edition) → spare_byte e < 4
-spare_early Ours = omega arith
-spare_early Spreadsheet = omega arith
-
--- the first of n records left: refused, or the rest of them
-module _ (e : Edition) (file : List ℕ) (k n : ℕ) (s : Seen) where
-  pub records-next : k < n → table_records e file k (n - k) s ≡ and_then (table_record e s (record_at file k)) (table_records e file (k + 1) (n - (k + 1)))
-  records-next h =
+-- the first of the records that are left: what it refuses is refused, and what it accepts goes on to the rest
+module _ (e : Edition) (file : List ℕ) (k n : ℕ) (s : Seen) (h : k < n) where
+  records-next : table_records e file k (n - k) s ≡ and_then (table_record e s (record_at file k)) (table_records e file (k + 1) (n - (k + 1)))
+  records-next =
       let q : n - k ≡ suc (n - (k + 1)) = omega arith in
       let f : suc k ≡ k + 1 = omega arith in
       ap (λ (i : ℕ). table_records e file k i s) q ∙ ap (λ (i : ℕ). and_then (table_record e s (record_at file k)) (table_records e file i (n - (k + 1)))) f
 
-  pub records-end : n ≤ k → table_records e file k (n - k) s ≡ unless (not (eqb s.m 0)) RecordOrder (accepted s)
-  records-end h = let q : n - k ≡ 0 = omega arith in ap (λ (i : ℕ). table_records e file k i s) q
+  pub records-refused : (q : Refusal) → refused q ≡ table_record e s (record_at file k) → refused q ≡ table_records e file k (n - k) s
+  records-refused q v = ap (λ (x : Verdict Seen). and_then x (table_records e file (k + 1) (n - (k + 1)))) v ∙ sym records-next
+
+  pub records-accepted : (t : Seen) → accepted t ≡ table_record e s (record_at file k) → table_records e file (k + 1) (n - (k + 1)) t ≡ table_records e file k (n - k) s
+  records-accepted t v = ap (λ (x : Verdict Seen). and_then x (table_records e file (k + 1) (n - (k + 1)))) v ∙ sym records-next
 
 -- one condition more multiplies the cells
 places-set : (cards : List ℕ) (n k : ℕ) → n < length cards → at cards n ≡ 0 → 1 ≤ k → cells (places (set cards n k)) ≡ cells (places cards) * k

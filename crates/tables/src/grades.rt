@@ -10,11 +10,7 @@ use rules::Gate;
 pub fn extreme(greater: bool, a: u8, b: u8) -> u8
     ensures { result ≡ best greater a b }
 {
-    if greater {
-        if a < b { b } else { a }
-    } else {
-        if a < b { a } else { b }
-    }
+    if greater { a.max(b) } else { a.min(b) }
 }
 
 // Whether a gate takes the greater of two grades.
@@ -38,9 +34,5 @@ pub fn combined(gate: Gate, a: u8, b: u8) -> u8
 pub fn greatest(grades: &[u8]) -> u8
     ensures { result ≡ greatest grades.now }
 {
-    let mut found = 0;
-    for v in 0..grades.len() {
-        found = extreme(true, found, grades[v]);
-    }
-    found
+    grades.iter().fold(0, |found, grade| found.max(*grade))
 }

@@ -7,13 +7,8 @@ pub fn limits_sound(lower: &[u8], upper: &[u8], m: u8, n: usize) -> bool
     requires { (n ≤ length lower.now) × (n ≤ length upper.now) }
     ensures { result ≡ all n (λ c. leb (at lower.now c) (at upper.now c) && ltb (at upper.now c) m) }
 {
-    for c in 0..n {
-        if upper[c] < lower[c] {
-            return false;
-        }
-        if m <= upper[c] {
-            return false;
-        }
-    }
-    true
+    lower[..n]
+        .iter()
+        .zip(&upper[..n])
+        .all(|(low, high)| low <= high && *high < m)
 }

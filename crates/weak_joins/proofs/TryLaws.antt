@@ -1,10 +1,8 @@
 -- The search for the weak join that is tried, and that it is the one of the rules.
-use Prim.Native.Nat.{ℕ, ◌+◌, ◌-◌, ◌*◌, ◌≤◌, ◌<◌}
+use Prim.Native.Nat.{ℕ, ◌-◌, ◌*◌, ◌≤◌, ◌<◌}
 use mathlib.Core.Path.{◌≡◌, refl, sym, ◌∙◌, ap, ap₂, subst, fun_ext}
 use mathlib.Core.Bool.{Bool, true, false, cond, not, ◌&&◌, ◌||◌}
 use mathlib.Core.List.{List}
-use mathlib.Core.Logic.{⊎_elim}
-use native.Mathlib.Nat.{eq-or-lt_of_le}
 use native.Mathlib.Omega.{arith}
 use borrow.Author.Tests.{eqb-true, eqb-false, eq-eqb, ne_eqb, ltb-true, ltb-false, lt-ltb, le-ltb, le-leb, lt-leb}
 use lib.Bits.{bit_and}
@@ -37,21 +35,6 @@ pub record Passed (counts : Gate → ℕ → Bool) (i : ℕ) : Type 0 where
   pub none : (op : Gate) (j : ℕ) → j < i → T (counts op j) → ⊥
 
 module _ {counts : Gate → ℕ → Bool} where
-  pub passed_start : Passed counts 0
-  passed_start = record { within = omega arith; none = λ op j h. absurd (omega arith) }
-
-  pub passed_more : {i : ℕ} → Passed counts i → i < 8 → (T (counts Max i) → ⊥) → (T (counts Min i) → ⊥) → Passed counts (i + 1)
-  passed_more {i} p h f g =
-      record {
-        within = omega arith;
-        none = λ op j l t.
-            ⊎_elim (λ e. here op (subst (λ (k : ℕ). T (counts op k)) e t)) (λ lt. p.none op j lt t) (let le : j ≤ i = omega arith in eq-or-lt_of_le le);
-      }
-    where
-      here : (op : Gate) → T (counts op i) → ⊥
-      here Max = f
-      here Min = g
-
   -- what it ends with
   pub found_none : {i : ℕ} → Passed counts i → 8 ≤ i → nowhere ≡ first_weak counts (numbers_from 0 8)
   found_none p h = sym (weak-none counts 0 8 (λ op j l u. p.none op j (omega arith)))
@@ -69,9 +52,6 @@ module _ (ks : List ℕ) (a b : ℕ) (op : Gate) (i : ℕ) where
 
   pub not-lacking : {member : Bool} → member ≡ has (side op a b) i → not member ≡ false → T (lacking ks a b op i) → ⊥
   not-lacking f g t = subst T (ap not (sym f) ∙ g) (and_r (present ks i) (not (has (side op a b) i)) t)
-
-  pub absent : present ks i ≡ false → T (lacking ks a b op i) → ⊥
-  absent e t = subst T e (and_l (present ks i) (not (has (side op a b) i)) t)
 
 -- both sets have all
 pub none-lacking : (ks : List ℕ) (a b : ℕ) → bit_and a b ≡ 255 → nowhere ≡ first_weak (lacking ks a b) (numbers_from 0 8)

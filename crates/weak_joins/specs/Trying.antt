@@ -1,16 +1,15 @@
 -- Request 5: the weak join that a stage tries, from its masks.
-use Rattle.std.specs.Prelude.{ℕ, ◌<◌, ◌≡◌, Bool, not, ◌&&◌, ◌||◌, List, eqb}
+use Rattle.std.specs.Prelude.{ℕ, ◌<◌, ◌≡◌, Bool, not, ◌&&◌, ◌||◌, List, Option, Some, None, eqb}
 use Rattle.rules.specs.declared.Gate.{Gate}
 use Rattle.rules.specs.Bytes.{at, all}
 use Rattle.rules.specs.Cell.{present, has}
 use Rattle.rules.specs.Stage as rules
 use Rattle.join_tables.specs.Parts.{side}
-use Rattle.weak_joins.specs.declared.Weak.{Weak}
-use Rattle.weak_joins.specs.declared.Weak.TheVariants.{Nowhere, At}
+use Rattle.weak_joins.specs.declared.WeakJoin.{WeakJoin}
 
-abbrev pub weak_of : Weak → rules.Weak
-weak_of Nowhere = rules.nowhere
-weak_of (At gate i) = rules.weakly gate i
+abbrev pub weak_of : Option WeakJoin → rules.Weak
+weak_of None = rules.nowhere
+weak_of (Some tried) = rules.weakly tried.gate tried.condition
 
 -- s has exactly what all of n masks have, but those of cells whose grade is `free`
 pub record Common (n : ℕ) (masks grades : List ℕ) (free s : ℕ) : Type 0 where

@@ -21,11 +21,11 @@ use stage_steps::gates::Extent;
 use stage_steps::values;
 use tables::fill;
 
-// The weak join that a stage tries: by a gate at a condition, or none.
+// A weak join that a stage tries: by a gate at a condition.
 #[derive(Clone, Copy)]
-pub enum Weak {
-    Nowhere,
-    At(Gate, usize),
+pub struct WeakJoin {
+    pub gate: Gate,
+    pub condition: usize,
 }
 
 // How far the networks of a split and of a weak join reach, each counted from record 0 on.
@@ -48,42 +48,48 @@ fn common(w: &[u8], a: usize, of: usize, free: u8, n: usize) -> u8
     requires { (a + n ≤ length w.now) × (of + n ≤ length w.now) }
     ensures { Common n (part w.now a n) (part w.now of n) free result }
 {
-    let mut found: u8 = 255;
-    for x in 0..n {
-        found = found & if_bound(w[a + x], w[of + x], free);
-    }
-    found
+    w[a..a + n]
+        .iter()
+        .zip(&w[of..of + n])
+        .map(|(mask, grade)| if_bound(*mask, *grade, free))
+        .fold(255, |found, mask| found & mask)
 }
 
 // The first condition that is missing in one of two sets, and the gate of that set: max is asked before min. Most
 // stages that try none, as those of parity, have every bit in both.
-fn first_lacking(ks: [u8; PLACES], by_max: u8, by_min: u8) -> Weak
+fn first_lacking(ks: [u8; PLACES], by_max: u8, by_min: u8) -> Option<WeakJoin>
     ensures { weak_of result ≡ first_weak (lacking ks by_max by_min) (numbers_from 0 8) }
 {
     if by_max & by_min == 255 {
-        return Weak::Nowhere;
+        return None;
     }
-    for i in 0..PLACES {
-        if 1 < ks[i] {
-            if !places::has_member(by_max, i) {
-                return Weak::At(Gate::Max, i);
+    for (condition, card) in ks.iter().enumerate() {
+        if *card > 1 {
+            if !places::has_member(by_max, condition) {
+                return Some(WeakJoin {
+                    gate: Gate::Max,
+                    condition,
+                });
             }
-            if !places::has_member(by_min, i) {
-                return Weak::At(Gate::Min, i);
+            if !places::has_member(by_min, condition) {
+                return Some(WeakJoin {
+                    gate: Gate::Min,
+                    condition,
+                });
             }
         }
     }
-    Weak::Nowhere
+    None
 }
 
-// The weak join that the stage at the front tries, if it may, from its masks: a condition counts by a gate unless all cells refuse
-// it. Cells with a lower grade of 0 are not asked for max, nor those with the greatest upper grade for min.
-pub fn first_weak(w: &[u8], ks: [u8; PLACES], m: u8, n: usize, may: bool) -> Weak
+// The weak join that the stage at the front tries, if it may, from its masks: a condition counts by a gate unless all
+// cells refuse it. Cells with a lower grade of 0 are not asked for max, nor those with the greatest upper grade for min.
+pub fn first_weak(w: &[u8], ks: [u8; PLACES], m: u8, n: usize, may: bool) -> Option<WeakJoin>
     requires { Room w.now ks n × Proper m (front_stage ks w.now) × Known m ks w.now }
     ensures { weak_of result ≡ cond may (weak_found m (front_stage ks w.now)) nowhere }
 {
     if !may {
-        return Weak::Nowhere;
+        return None;
     }
     let by_max = common(w, 2 * n, 0, 0, n);
     let by_min = common(w, 3 * n, n, m - 1, n);

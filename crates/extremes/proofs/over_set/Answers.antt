@@ -15,33 +15,25 @@ use Rattle.extremes.proofs.over_set.Goals as goal
 
 pub returns-then-lowest-eq-PLACES : goal.returns-then-lowest-eq-PLACES
 returns-then-lowest-eq-PLACES c =
-    let b = c.before in
-    let s = b.args in
+    let s = c.args in
     let l = c.lowest-lowest.ensures in
-    let p = cells_pos s.ks b.requires.1.some in
-    let e = b.requires.0 in
-    swept_over s.greatest b.requires.0 (omega arith) (none_swept s.greatest b.requires.1 (search rules) b.requires.0 (λ j lt. l.none j (let q = c.if-lowest-eq-PLACES.true in omega arith)) c.take_row.ensures)
-
-pub overflow_add-top : goal.overflow_add-top
-overflow_add-top c = let t = c.highest-top.ensures.top in omega arith
-
-pub step-size-requires : goal.step-size-requires
-step-size-requires c = let t = c.highest-top.ensures.top in omega arith
+    let p = cells_pos s.ks c.requires.1.some in
+    let e = c.requires.0 in
+    swept_over s.greatest c.requires.0 (omega arith) (none_swept s.greatest c.requires.1 (search rules) c.requires.0 (λ j lt. l.none j (let q = c.if-lowest-eq-PLACES.true in omega arith)) c.take_row.ensures)
 
 -- the whole table, from its highest member down
 tables : (c : After-step-size)
-    → let b = c.before in Tables b.args.ks c.highest-top.result c.step-size.result b.args.n
-tables c = let b = c.before in top_tables b.requires.1 (search rules) b.requires.0 c.highest-top.ensures.top c.step-size.ensures
+    → Tables c.args.ks c.highest-top.result c.step-size.result c.args.n
+tables c = top_tables c.requires.1 (search rules) c.requires.0 c.highest-top.ensures.top c.step-size.ensures
 
 pub runs-requires : goal.runs-requires
 runs-requires c = ((tables (goal.at.runs-requires c).After-step-size).several, c.requires.2)
 
 pub returns-then-top-run : goal.returns-then-top-run
 returns-then-top-run c =
-    let b = c.before in
-    let s = b.args in
+    let s = c.args in
     let h = c.highest-top.ensures in
-    top-over b.requires.1 (search rules) b.requires.0 h.top c.step-size.ensures s.greatest h.none
+    top-over c.requires.1 (search rules) c.requires.0 h.top c.step-size.ensures s.greatest h.none
     (runs_swept s.greatest (tables (goal.at.returns-then-top-run c).After-step-size) s.set (λ j lt. c.run-run.ensures.inside j (let q = c.if-top-run.true in omega arith)) c.runs.ensures)
 
 pub along-requires : goal.along-requires
@@ -49,12 +41,11 @@ along-requires c = (along-tables (tables (goal.at.along-requires c).After-step-s
 
 pub returns-then-top-lowest : goal.returns-then-top-lowest
 returns-then-top-lowest c =
-    let b = c.before in
-    let s = b.args in
+    let s = c.args in
     let l = c.lowest-lowest.ensures in
     let h = c.highest-top.ensures in
     let e = c.if-top-lowest.true in
-    top-over b.requires.1 (search rules) b.requires.0 h.top c.step-size.ensures s.greatest h.none
+    top-over c.requires.1 (search rules) c.requires.0 h.top c.step-size.ensures s.greatest h.none
     (lines_swept s.greatest (tables (goal.at.returns-then-top-lowest c).After-step-size) s.set (subst (λ (j : ℕ). T (has s.set j)) (sym e) (l.member (lower l.top c.if-lowest-eq-PLACES.false))) (λ j lt. l.none j (omega arith)) c.along.ensures)
 
 pub over_places-requires : goal.over_places-requires
@@ -67,6 +58,5 @@ over_places-requires c =
 
 pub returns : goal.returns
 returns c =
-    let b = c.before in
     let h = c.highest-top.ensures in
-    top-over b.requires.1 (search rules) b.requires.0 h.top c.step-size.ensures b.args.greatest h.none c.over_places.ensures
+    top-over c.requires.1 (search rules) c.requires.0 h.top c.step-size.ensures c.args.greatest h.none c.over_places.ensures

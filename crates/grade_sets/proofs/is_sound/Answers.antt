@@ -1,6 +1,6 @@
 -- `grade_sets::is_sound` meets its contract.
 use Prim.Native.Nat.{◌≤◌, ◌<◌}
-use mathlib.Core.Path.{◌≡◌, refl, sym, ◌∙◌, ap, ap₂}
+use mathlib.Core.Path.{◌≡◌, refl, sym, ◌∙◌, ap₂}
 use mathlib.Core.Bool.{true, false}
 use native.Mathlib.Omega.{arith}
 use borrow.Author.Rules.{rules}
@@ -33,13 +33,16 @@ span-requires c =
 the-span : (c : After-span) → c.span.result ≡ span (least_grade c.args.set) (greatest_grade c.args.set)
 the-span c = c.span.ensures ∙ ap₂ span c.least.ensures c.greatest-upper.ensures
 
-pub returns-then-set-span : goal.returns-then-set-span
-returns-then-set-span c =
+pub returns-then-from-span : goal.returns-then-from-span
+returns-then-from-span c =
     let a = c.args in
-    sym (sound_by a.m a.set false false _ (ne_eqb _ _ c.if-set-eq0.false) (ne_eqb _ _ (λ e. c.if-set-span.true (e ∙ sym (the-span (goal.at.returns-then-set-span c).After-span)))) refl)
+    sym
+    (sound_by a.m a.set false false _ (ne_eqb _ _ c.if-set-eq0.false)
+    (ne_eqb _ _ (λ e. c.if-from-span.true (c.from.ensures ∙ e ∙ sym (the-span (goal.at.returns-then-from-span c).After-span))))
+    refl)
 
 pub returns : goal.returns
 returns c =
     let a = c.args in
-    ap (λ x. ltb x a.m) c.greatest-upper.ensures
-    ∙ sym (sound_by a.m a.set false true _ (ne_eqb _ _ c.if-set-eq0.false) (eq-eqb _ _ (c.if-set-span.false ∙ the-span (goal.at.returns c).After-span)) refl)
+    ap₂ ltb c.greatest-upper.ensures c.from-2.ensures
+    ∙ sym (sound_by a.m a.set false true _ (ne_eqb _ _ c.if-set-eq0.false) (eq-eqb _ _ (sym c.from.ensures ∙ c.if-from-span.false ∙ the-span (goal.at.returns c).After-span)) refl)

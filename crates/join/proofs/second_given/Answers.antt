@@ -1,7 +1,7 @@
 -- `join::second_given` meets its contract.
 use borrow.Author.Rules.{rules}
 use Rattle.join_tables.proofs.HoldLaws.{laid-holds, loaded}
-use Rattle.join.proofs.OpenLaws.{first-ready, second-ready, incomplete, complete}
+use Rattle.join.proofs.OpenLaws.{first-ready, second-ready, complete}
 use Rattle.join.proofs.second_given.Goals as goal
 
 pub first_limits-requires : goal.first_limits-requires
@@ -9,10 +9,6 @@ first_limits-requires c = first-ready c.requires.joining
 
 pub block_sound-requires : goal.block_sound-requires
 block_sound-requires c = (search rules, c.requires.block, laid-holds (loaded c.load.ensures))
-
-pub returns-then-not-block_sound : goal.returns-then-not-block_sound
-returns-then-not-block_sound c =
-    incomplete c.first_limits.ensures c.args.g.now c.load.ensures c.block_sound.ensures c.if-not-block_sound.true
 
 pub second_limits-requires : goal.second_limits-requires
 second_limits-requires c =

@@ -1,20 +1,22 @@
 -- `join_tables::block_sound` meets its contract.
 use mathlib.Core.Path.{sym, ◌∙◌}
-use Rattle.join_tables.proofs.JudgeLaws.{blind_room, below-limits, above-limits, judged}
+use Rattle.join_tables.proofs.JudgeLaws.{below-limits, above-limits, judged}
+use Rattle.join_tables.proofs.block_sound.Goals.{then-fits, else-fits}
 use Rattle.join_tables.proofs.block_sound.Goals as goal
 
-pub returns-then-not-fits : goal.returns-then-not-fits
-returns-then-not-fits c = let b = c.before in below-limits b.args.t b.requires.0 b.requires.2 (sym c.if-not-fits.true ∙ c.fits.ensures)
+pub returns-then-fits-2 : goal.returns-then-fits-2
+returns-then-fits-2 c =
+    let r = c.requires in
+    elim c.if-fits.branch [
+      | then-fits w ↦ judged c.args.t r.0 r.2 (sym w.if-fits.true ∙ c.fits.ensures) (sym c.if-fits-2.true ∙ w.value-is ∙ w.fits-then-fits.ensures) c.blind.ensures
+      | else-fits w ↦ cc
+    ]
 
-pub returns-then-not-fits-2 : goal.returns-then-not-fits-2
-returns-then-not-fits-2 c =
-    let b = c.before in
-    above-limits b.args.t b.requires.0 b.requires.2 (sym c.if-not-fits.false ∙ c.fits.ensures) (sym c.if-not-fits-2.true ∙ c.fits-2.ensures)
-
-pub blind-requires : goal.blind-requires
-blind-requires c = let b = c.before in (b.requires.0.shaped, b.requires.0.count, blind_room b.args.t b.requires.0 b.requires.2, b.requires.1, b.requires.2)
-
-pub returns : goal.returns
-returns c =
-    let b = c.before in
-    judged b.args.t b.requires.0 b.requires.2 (sym c.if-not-fits.false ∙ c.fits.ensures) (sym c.if-not-fits-2.false ∙ c.fits-2.ensures) c.blind.ensures
+pub returns-else-fits-2 : goal.returns-else-fits-2
+returns-else-fits-2 c =
+    let r = c.requires in
+    rw c.if-fits-2.false
+    (elim c.if-fits.branch [
+      | then-fits w ↦ above-limits c.args.t r.0 r.2 (sym w.if-fits.true ∙ c.fits.ensures) (sym c.if-fits-2.false ∙ w.value-is ∙ w.fits-then-fits.ensures)
+      | else-fits w ↦ below-limits c.args.t r.0 r.2 (sym w.if-fits.false ∙ c.fits.ensures)
+    ])

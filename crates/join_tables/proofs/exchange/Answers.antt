@@ -1,25 +1,17 @@
 -- `join_tables::exchange` meets its contract.
 use Prim.Native.Nat.{◌+◌}
 use native.Mathlib.Omega.{arith}
-use Rattle.join_tables.proofs.TurnLaws.{side_in, side-ready, exchanging_on, exchanged}
+use Rattle.join_tables.proofs.TurnLaws.{turn_ready, exchanging_on, exchanged_max, exchanged_min}
 use Rattle.join_tables.proofs.exchange.Goals as goal
 
-pub exchange_block-requires : goal.exchange_block-requires
-exchange_block-requires c =
-    let a = c.args in
-    let i = side_in a.gate a.from (a.from + a.n) c.side.ensures (omega arith) (omega arith) (omega arith) (omega arith) in
-    side-ready c.requires c.side.result a.to i.0 i.1 (omega arith) (omega arith)
+pub complement-requires : goal.complement-requires
+complement-requires c = let a = c.args in turn_ready c.requires (a.from + a.n) a.to (omega arith) (omega arith) (omega arith) (omega arith)
 
-pub exchange_block-requires-2 : goal.exchange_block-requires-2
-exchange_block-requires-2 c =
-    let b = c.before in
-    let a = b.args in
-    let i = side_in a.gate a.from (a.from + a.n) c.side-2.ensures (omega arith) (omega arith) (omega arith) (omega arith) in
-    side-ready (exchanging_on b.requires c.exchange_block.ensures) c.side-2.result (a.to + a.n) i.0 i.1 (omega arith) (omega arith)
+pub complement-requires-in-Min : goal.complement-requires-in-Min
+complement-requires-in-Min c = let a = c.args in turn_ready (exchanging_on c.requires c.complement.ensures) a.from (a.to + a.n) (omega arith) (omega arith) (omega arith) (omega arith)
 
-pub returns : goal.returns
-returns c =
-    let b = c.before in
-    exchanged b.requires b.args.gate c.side.result c.side-2.result
-    c.side.ensures c.side-2.ensures
-    c.exchange_block.ensures c.exchange_block-2.ensures
+pub returns-in-Max : goal.returns-in-Max
+returns-in-Max c = rw c.in-Max.is (exchanged_max c.requires c.copy.ensures)
+
+pub returns-in-Min : goal.returns-in-Min
+returns-in-Min c = rw c.in-Min.is (exchanged_min c.requires c.complement.ensures c.complement-in-Min.ensures)

@@ -4,6 +4,4 @@ use Rattle.join_tables.proofs.TurnLaws.{over-laid}
 use Rattle.join_tables.proofs.greatest_above.Goals as goal
 
 pub returns : goal.returns
-returns c =
-    let b = c.before in
-    over-laid true b.args.ks b.args.set b.requires.1 c.keep_above.ensures c.over_part.ensures
+returns c = over-laid true c.args.ks c.args.set c.requires.1 c.keep_above.ensures c.over_part.ensures

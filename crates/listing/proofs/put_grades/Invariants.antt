@@ -1,8 +1,8 @@
-use Prim.Native.Nat.{◌*◌, ◌≤◌}
-use Rattle.rules.specs.Bytes.{tabulate}
+use Prim.Native.Nat.{◌*◌}
+use lib.ListN.{take}
 use Rattle.rules.specs.Listing.{fields}
-use Rattle.listing.specs.Putting.{Put, grade_bytes}
+use Rattle.listing.specs.Putting.{Put}
 use Rattle.listing.proofs.put_grades.Given as goal
 
-abbrev pub invariant-loop-v : goal.invariant-loop-v
-invariant-loop-v l = (l.v ≤ l.values) × (l.values ≤ 8) × Put l.initial.out l.start (fields (tabulate l.v (grade_bytes l.bytes))) (6 * l.v) l.next l.out
+abbrev pub invariant-loop-grade : goal.invariant-loop-grade
+invariant-loop-grade l = Put l.initial.out l.start (fields (take l.grade-index l.grades)) (6 * l.grade-index) l.next l.out

@@ -14,6 +14,3 @@ returns-then-values-eq2 c =
     let p = c.requires in
     let two = sym p.1 ∙ c.if-values-eq2.true in
     two-marked p.2 p.0 two (two_blocks p.2 p.0 two (search rules)) c.mark_blocks.ensures
-
-pub returns : goal.returns
-returns c = c.mark_lines.ensures

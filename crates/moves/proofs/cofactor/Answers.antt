@@ -13,8 +13,7 @@ loop-c-init c = (search rules, filled_none _ _ _)
 -- the cell that is read is one of the larger table's
 inside : (c : In-loop-c) → let s = c.args in s.k + s.card * c.loop-c.c < s.card * s.n
 inside c =
-    let b = c.before in
-    digit-below b.args.card b.args.k c.loop-c.c b.args.n b.requires.0 c.loop-c-test.true
+    digit-below c.args.card c.args.k c.loop-c.c c.args.n c.requires.0 c.loop-c-test.true
 
 pub overflow_mul-w : goal.overflow_mul-w
 overflow_mul-w c = let s = c.requires.1.src in omega (arith, inside (goal.at.overflow_mul-w c).In-loop-c)
@@ -30,10 +29,9 @@ bounds-w-from c = let s = c.requires.1.src in omega (arith, inside (goal.at.boun
 
 pub loop-c-preserved : goal.loop-c-preserved
 loop-c-preserved c =
-    let b = c.before in
     let l = c.loop-c in
-    let d = b.requires.1.dst in
-    (search rules, filled_more _ l.invariant.1 (omega arith) (read_part b.requires.1 l.invariant.1 (omega arith) _ (inside (goal.at.loop-c-preserved c).In-loop-c)))
+    let d = c.requires.1.dst in
+    (search rules, filled_more _ l.invariant.1 (omega arith) (read_part c.requires.1 l.invariant.1 (omega arith) _ (inside (goal.at.loop-c-preserved c).In-loop-c)))
 
 pub returns : goal.returns
 returns c = filled_all c.args.n (omega arith) c.loop-c.invariant.1

@@ -20,12 +20,11 @@ loop-r-init c = (search rules, rw mul-zero (filled_none _ _ _))
 room : (c : In-loop-r) → let s = c.args in let l = c.loop-r in
     Two l.w (s.from + s.step * (s.k + s.card * l.r)) (s.to + s.step * l.r) s.step
 room c =
-    let b = c.before in
-    taken-room b.requires.0 b.requires.1 b.requires.2 c.loop-r-test.true c.loop-r.invariant.1
+    taken-room c.requires.0 c.requires.1 c.requires.2 c.loop-r-test.true c.loop-r.invariant.1
 
 number : (c : In-loop-r) → let s = c.args in let l = c.loop-r in
     s.k + s.card * l.r ≤ s.step * (s.k + s.card * l.r)
-number c = let b = c.before in row_number b.requires.1 b.requires.0 c.loop-r-test.true
+number c = row_number c.requires.1 c.requires.0 c.loop-r-test.true
 
 pub overflow_mul-card : goal.overflow_mul-card
 overflow_mul-card c = let p = (room (goal.at.overflow_mul-card c).In-loop-r).src in let q = number (goal.at.overflow_mul-card c).In-loop-r in omega arith
@@ -50,18 +49,14 @@ copy-requires c = room (goal.at.copy-requires c).In-loop-r
 
 pub overflow_step-r : goal.overflow_step-r
 overflow_step-r c =
-    let b = c.before in
-    let p = b.requires.2.dst in
-    omega (arith, div-le_self b.args.n b.args.step)
+    let p = c.requires.2.dst in
+    omega (arith, div-le_self c.args.n c.args.step)
 
 pub loop-r-preserved : goal.loop-r-preserved
 loop-r-preserved c =
-    let t = c.before in
-    let b = t.before in
-    (search rules, taken_more b.requires.0 b.requires.1 b.requires.2 t.loop-r-test.true t.loop-r.invariant.1 c.copy.ensures)
+    (search rules, taken_more c.requires.0 c.requires.1 c.requires.2 c.loop-r-test.true c.loop-r.invariant.1 c.copy.ensures)
 
 pub returns : goal.returns
 returns c =
-    let b = c.before in
-    let e : c.loop-r.r ≡ b.args.n / b.args.step = omega arith in
-    filled_all b.args.n (ap (λ (x : ℕ). b.args.step * x) e ∙ rows_all b.requires.1) c.loop-r.invariant.1
+    let e : c.loop-r.r ≡ c.args.n / c.args.step = omega arith in
+    filled_all c.args.n (ap (λ (x : ℕ). c.args.step * x) e ∙ rows_all c.requires.1) c.loop-r.invariant.1

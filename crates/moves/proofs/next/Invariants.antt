@@ -1,7 +1,8 @@
-use Prim.Native.Nat.{◌+◌, ◌*◌, ◌≤◌}
+use Prim.Native.Nat.{◌+◌, ◌*◌}
+use lib.ListN.{length}
 use Rattle.laws.proofs.MoveLaws.{Turns}
 use Rattle.moves.specs.Move.{remap_from}
 use Rattle.moves.proofs.next.Given as goal
 
-abbrev pub invariant-loop-i : goal.invariant-loop-i
-invariant-loop-i l = (l.i ≤ 8) × Turns l.b l.a (l.first * remap_from l.from l.b l.a (l.r + 1)) l.i l.rest l.at l.step
+abbrev pub invariant-loop-k : goal.invariant-loop-k
+invariant-loop-k l = Turns l.fn.b l.fn.a (l.fn.run.first * remap_from l.fn.run.places l.fn.b l.fn.a (l.fn.r + 1)) (l.fn.run.places + length l.yielded) l.rest l.at l.step

@@ -17,8 +17,7 @@ loop-c-init c = (search rules, spread_none _ _ _ _)
 -- the cell that is written is one of the larger table's
 inside : (c : In-loop-c) → let s = c.args in s.k + s.card * c.loop-c.c < s.card * s.n
 inside c =
-    let b = c.before in
-    digit-below b.args.card b.args.k c.loop-c.c b.args.n b.requires.0 c.loop-c-test.true
+    digit-below c.args.card c.args.k c.loop-c.c c.args.n c.requires.0 c.loop-c-test.true
 
 pub overflow_add-w-in-loop-c : goal.overflow_add-w-in-loop-c
 overflow_add-w-in-loop-c c = let d = c.requires.1.dst in omega (arith, inside (goal.at.overflow_add-w-in-loop-c c).In-loop-c)
@@ -34,11 +33,10 @@ bounds-w-to c = let d = c.requires.1.dst in omega (arith, inside (goal.at.bounds
 
 pub loop-c-preserved : goal.loop-c-preserved
 loop-c-preserved c =
-    let b = c.before in
     let l = c.loop-c in
-    let d = b.requires.1.dst in (
+    let d = c.requires.1.dst in (
       search rules,
-      spread_more _ l.invariant.1 (omega arith) (omega (arith, inside (goal.at.loop-c-preserved c).In-loop-c)) (read_spread b.requires.1 b.requires.0 l.invariant.1 (omega arith) l.c (omega arith)),
+      spread_more _ l.invariant.1 (omega arith) (omega (arith, inside (goal.at.loop-c-preserved c).In-loop-c)) (read_spread c.requires.1 c.requires.0 l.invariant.1 (omega arith) l.c (omega arith)),
     )
 
 pub returns : goal.returns

@@ -1,17 +1,23 @@
 -- `network::first_outside` meets its contract.
-use mathlib.Core.Path.{◌≡◌, sym, ap, ◌∙◌}
+use Prim.Native.Nat.{ℕ, ◌-◌, ◌/◌, ◌≤◌, ◌<◌}
+use mathlib.Core.Path.{◌≡◌, sym, ap, ap₂, subst, ◌∙◌}
+use mathlib.Core.Bool.{◌&&◌}
 use mathlib.Core.List.{List}
-use Prim.Native.Nat.{ℕ, ◌-◌, ◌/◌}
+use native.Mathlib.Nat.{le_refl}
 use native.Mathlib.Omega.{arith}
-use lib.ListN.{length}
-use Rattle.rules.specs.Limits.{Limits, limits_of}
-use Rattle.rules.specs.Verdict.{accepted}
-use Rattle.rules.specs.NetworkCalls.{grade_within, outside, check_from}
+use lib.Dec.{leb}
+use lib.ListN.{length, take}
+use Rattle.std.proofs.lemmas.Iterator.{YieldsList-from_slice, YieldsList-from_zip}
+use Rattle.std.proofs.lemmas.Iterator.Consumers.{YieldsList-from_enumerate, YieldsList-turn, YieldsList-end}
+use Rattle.std.proofs.lemmas.List.{length_push}
 use Rattle.rules.specs.Bytes.{Past}
+use Rattle.rules.specs.Limits.{Limits, limits_of}
+use Rattle.rules.specs.Network.{evaluate}
+use Rattle.rules.specs.NetworkCalls.{grade_within, outside, check_from}
 use Rattle.laws.proofs.ByteLaws.{past_same, past_then}
 use Rattle.shape.specs.Shapes.{places_of}
+use Rattle.network.proofs.CellsLaws.{numbered-long, numbered-at}
 use Rattle.network.proofs.CheckLaws.{cell_within, check_next, check_stop, check_end}
-use borrow.Author.Rules.{rules}
 use Rattle.network.proofs.first_outside.Goals.{After-grade_within}
 use Rattle.network.proofs.first_outside.Goals as goal
 
@@ -20,73 +26,82 @@ loop-cell-init c =
     let a = c.args in
     let n = c.cells-cells.result in
     let whole : n ≡ n - 0 = omega arith in
-    (search rules, past_same, ap (check_from (places_of a.shape) (limits_of a.lower.now a.upper.now) a.network.now 0) whole)
+    (past_same, ap (check_from (places_of a.shape) (limits_of a.lower.now a.upper.now) a.network.now 0) whole)
 
-pub grade_at-grade-requires : goal.grade_at-grade-requires
-grade_at-grade-requires c =
-    let y = c.requires.ready in
-    record { shape-sound = y.shape-sound; network-sound = y.network-sound; room = omega (arith, y.room, c.loop-cell.invariant.1.long) }
+-- what a round goes over: its cell is the number of those before it, and its limits stand there
+record Round (c : After-grade_within) : Type 0 where
+  here : length c.loop-cell.yielded < c.cells-cells.result
+  cell-is : c.in-Some.cell ≡ length c.loop-cell.yielded
+  grade-is : c.grade_at-grade.result ≡ evaluate (places_of c.args.shape) c.args.network.now (length c.loop-cell.yielded)
+  within-is : cell_within (places_of c.args.shape) (limits_of c.args.lower.now c.args.upper.now) c.args.network.now (length c.loop-cell.yielded) ≡ c.grade_within.result
+  kept : Past (length c.args.network.now / 16) c.args.work.now c.grade_at-grade.new.work
 
-pub bounds-lower-cell : goal.bounds-lower-cell
-bounds-lower-cell c = omega (arith, c.cells-cells.ensures, c.requires.lower-room)
-
-pub bounds-upper-cell : goal.bounds-upper-cell
-bounds-upper-cell c = omega (arith, c.cells-cells.ensures, c.requires.upper-room)
-
--- what a round has found, and what it has left
-within-is : (c : After-grade_within)
-    → (let a = c.args in cell_within (places_of a.shape) (limits_of a.lower.now a.upper.now) a.network.now c.loop-cell.cell) ≡ c.grade_within.result
-within-is c =
+round : (c : After-grade_within) → Round c
+round c =
     let a = c.args in
-    ap (grade_within (limits_of a.lower.now a.upper.now) c.loop-cell.cell) (sym c.grade_at-grade.ensures.right) ∙ sym c.grade_within.ensures
-
-kept_here : (c : After-grade_within) → Past (length c.args.network.now / 16) c.args.work.now c.grade_at-grade.new.work
-kept_here c = past_then c.loop-cell.invariant.1 c.grade_at-grade.ensures.kept
-
-pub shape_of-work-then-not-grade_within : goal.shape_of-work-then-not-grade_within
-shape_of-work-then-not-grade_within c = (kept_here (goal.at.shape_of-work-then-not-grade_within c).After-grade_within).long
+    let n = c.cells-cells.result in
+    let i = length c.loop-cell.yielded in
+    let low : n ≤ length a.lower.now = omega (arith, c.cells-cells.ensures, c.requires.lower-room) in
+    let high : n ≤ length a.upper.now = omega (arith, c.cells-cells.ensures, c.requires.upper-room) in
+    let all = YieldsList-from_enumerate (YieldsList-from_zip (YieldsList-from_slice (take n a.lower.now) cc) (YieldsList-from_slice (take n a.upper.now) cc)) cc in
+    let t = YieldsList-turn all c.loop-cell.yielded c.loop-cell.cell-iterator c.loop-cell.yielded_by _ c.next.new.self (c.in-Some.cell, (c.in-Some.least, c.in-Some.greatest)) c.in-Some.is c.next.ensures.steps in
+    let before : i < n = subst (λ (k : ℕ). i < k) (numbered-long n a.lower.now a.upper.now low high) t.0 in
+    let there = numbered-at n a.lower.now a.upper.now low high i c.in-Some.cell c.in-Some.least.now c.in-Some.greatest.now before t.1 in
+    let found : c.grade_at-grade.result ≡ evaluate (places_of a.shape) a.network.now i = c.grade_at-grade.ensures.right ∙ ap (evaluate (places_of a.shape) a.network.now) there.0 in
+    let grade = c.grade_at-grade.result in
+    record {
+      here = before;
+      cell-is = there.0;
+      grade-is = found;
+      within-is =
+          sym (c.grade_within.ensures ∙ ap₂ (λ (x y : ℕ). leb x grade && leb grade y) there.1 there.2 ∙ ap (grade_within (limits_of a.lower.now a.upper.now) i) found);
+      kept = past_then c.loop-cell.invariant.0 c.grade_at-grade.ensures.kept;
+    }
 
 pub returns-then-not-grade_within : goal.returns-then-not-grade_within
 returns-then-not-grade_within c =
     let a = c.args in
     let l = c.loop-cell in
+    let r = round (goal.at.returns-then-not-grade_within c).After-grade_within in
     let ks : List ℕ = places_of a.shape in
     let limits : Limits = limits_of a.lower.now a.upper.now in
     record {
-      kept = kept_here (goal.at.returns-then-not-grade_within c).After-grade_within;
+      kept = r.kept;
       finds =
-          ap accepted
-          (ap (outside l.cell) c.grade_at-grade.ensures.right
+          ap₂ outside r.cell-is r.grade-is
           ∙ sym
-          (ap (check_from ks limits a.network.now 0) (sym c.cells-cells.ensures) ∙ l.invariant.2
-          ∙ check_stop ks limits a.network.now l.cell c.cells-cells.result (omega arith) (within-is (goal.at.returns-then-not-grade_within c).After-grade_within ∙ c.if-not-grade_within.true)));
+          (ap (check_from ks limits a.network.now 0) (sym c.cells-cells.ensures) ∙ l.invariant.1
+          ∙ check_stop ks limits a.network.now (length l.yielded) c.cells-cells.result r.here (r.within-is ∙ c.if-not-grade_within.true));
     }
 
 pub loop-cell-preserved : goal.loop-cell-preserved
 loop-cell-preserved c =
     let a = c.args in
-    let l = c.loop-cell in (
-      search rules,
-      kept_here (goal.at.loop-cell-preserved c).After-grade_within,
-      l.invariant.2
-          ∙ check_next (places_of a.shape) (limits_of a.lower.now a.upper.now) a.network.now l.cell c.cells-cells.result (omega arith)
-          (within-is (goal.at.loop-cell-preserved c).After-grade_within ∙ c.if-not-grade_within.false),
+    let l = c.loop-cell in
+    let r = round (goal.at.loop-cell-preserved c).After-grade_within in
+    let ks : List ℕ = places_of a.shape in
+    let limits : Limits = limits_of a.lower.now a.upper.now in
+    let n = c.cells-cells.result in
+    let more = length_push l.yielded (c.in-Some.cell, (c.in-Some.least, c.in-Some.greatest)) in (
+      r.kept,
+      l.invariant.1
+          ∙ check_next ks limits a.network.now (length l.yielded) n r.here (r.within-is ∙ c.if-not-grade_within.false)
+          ∙ ap (λ (i : ℕ). check_from ks limits a.network.now i (n - i)) (sym more),
     )
-
-pub shape_of-work : goal.shape_of-work
-shape_of-work c = c.loop-cell.invariant.1.long
 
 pub returns : goal.returns
 returns c =
     let a = c.args in
     let l = c.loop-cell in
+    let n = c.cells-cells.result in
+    let low : n ≤ length a.lower.now = omega (arith, c.cells-cells.ensures, c.requires.lower-room) in
+    let high : n ≤ length a.upper.now = omega (arith, c.cells-cells.ensures, c.requires.upper-room) in
+    let all = YieldsList-from_enumerate (YieldsList-from_zip (YieldsList-from_slice (take n a.lower.now) cc) (YieldsList-from_slice (take n a.upper.now) cc)) cc in
+    let t = YieldsList-end all l.yielded l.cell-iterator l.yielded_by _ c.next.new.self c.in-None.is c.next.ensures.steps in
     let ks : List ℕ = places_of a.shape in
     let limits : Limits = limits_of a.lower.now a.upper.now in
+    let past : n ≤ length l.yielded = subst (λ (k : ℕ). n ≤ k) (sym (t.1 ∙ numbered-long n a.lower.now a.upper.now low high)) (le_refl n) in
     record {
-      kept = l.invariant.1;
-      finds =
-          ap accepted
-          (sym
-          (ap (check_from ks limits a.network.now 0) (sym c.cells-cells.ensures) ∙ l.invariant.2
-          ∙ check_end ks limits a.network.now l.cell c.cells-cells.result (omega arith)));
+      kept = l.invariant.0;
+      finds = sym (ap (check_from ks limits a.network.now 0) (sym c.cells-cells.ensures) ∙ l.invariant.1 ∙ check_end ks limits a.network.now (length l.yielded) n past);
     }

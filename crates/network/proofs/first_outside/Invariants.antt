@@ -1,5 +1,5 @@
 use mathlib.Core.Path.{◌≡◌}
-use Prim.Native.Nat.{◌-◌, ◌/◌, ◌≤◌}
+use Prim.Native.Nat.{◌-◌, ◌/◌}
 use lib.ListN.{length}
 use Rattle.rules.specs.Limits.{limits_of}
 use Rattle.rules.specs.NetworkCalls.{check_from}
@@ -8,4 +8,4 @@ use Rattle.shape.specs.Shapes.{places_of}
 use Rattle.network.proofs.first_outside.Given as goal
 
 abbrev pub invariant-loop-cell : goal.invariant-loop-cell
-invariant-loop-cell l = (l.cell ≤ l.cells) × Past (length l.network / 16) l.initial.work l.work × (check_from (places_of l.shape) (limits_of l.lower l.upper) l.network 0 l.cells ≡ check_from (places_of l.shape) (limits_of l.lower l.upper) l.network l.cell (l.cells - l.cell))
+invariant-loop-cell l = Past (length l.network / 16) l.initial.work l.work × (check_from (places_of l.shape) (limits_of l.fn.lower l.fn.upper) l.network 0 l.cells ≡ check_from (places_of l.shape) (limits_of l.fn.lower l.fn.upper) l.network (length l.yielded) (l.cells - length l.yielded))

@@ -1,27 +1,24 @@
 -- `network_scan::all_marked` meets its contract.
-use mathlib.Core.Path.{◌≡◌, refl, ap, ◌∙◌}
+use mathlib.Core.Path.{◌≡◌, refl, ◌∙◌, ap}
 use Prim.Native.Nat.{ℕ}
-use native.Mathlib.Omega.{arith}
+use mathlib.Core.Bool.{Bool, true, false, cond}
 use lib.Dec.{eqb}
 use borrow.Author.Rules.{rules}
-use Rattle.rules.specs.Bytes.{at, all}
-use Rattle.network_scan.proofs.SumLaws.{sum_more}
+use Rattle.std.specs.List.{sum}
+use Rattle.std.proofs.Common.{map}
+use Rattle.std.proofs.iter.runs.Made.{chains}
+use Rattle.std.proofs.lemmas.List.Sums.{sum-map}
+use Rattle.rules.specs.Bytes.{at}
+use Rattle.network_scan.proofs.SumLaws.{sum_zero}
 use Rattle.network_scan.proofs.all_marked.Goals as goal
 
-pub loop-k-init : goal.loop-k-init
-loop-k-init c = (search rules, search rules, refl)
-
-pub overflow_add-sum : goal.overflow_add-sum
-overflow_add-sum c = let l = c.loop-k in omega (arith, l.invariant.1, c.unmarked-sum.ensures.1)
-
-pub loop-k-preserved : goal.loop-k-preserved
-loop-k-preserved c =
-    let a = c.args in
-    let l = c.loop-k in
-    (search rules, omega (arith, l.invariant.1, c.unmarked-sum.ensures.1), sum_more l.k l.sum c.unmarked-sum.result (λ j. eqb (at a.marks.now j) 1) l.invariant.2 c.unmarked-sum.ensures.0)
+lacks : (b : Bool) → eqb (cond b 0 1) 0 ≡ b
+lacks true = refl
+lacks false = refl
 
 pub returns : goal.returns
 returns c =
-    let a = c.args in
-    let e : c.loop-k.k ≡ a.count = omega arith in
-    c.loop-k.invariant.2 ∙ ap (λ (n : ℕ). all n (λ j. eqb (at a.marks.now j) 1)) e
+    let xs = c.args.marks.now in
+    let missing : ℕ → ℕ = λ mark. cond (eqb mark 1) 0 1 in
+    let e : c.sum-missing.result ≡ sum (map missing xs) = search (rules, chains) in
+    ap (λ (s : ℕ). eqb s 0) (e ∙ sum-map missing xs) ∙ sum_zero missing xs 0 (λ k. eqb (at xs k) 1) (λ k h. lacks (eqb (at xs k) 1))

@@ -2,8 +2,9 @@ use mathlib.Core.Path.{◌≡◌}
 use mathlib.Core.Bool.{◌||◌}
 use Prim.Native.Nat.{◌*◌, ◌≤◌}
 use lib.Dec.{eqb}
+use lib.ListN.{length}
 use Rattle.rules.specs.Bytes.{at, all}
 use Rattle.network_scan.proofs.row_sound.Given as goal
 
-abbrev pub invariant-loop-j : goal.invariant-loop-j
-invariant-loop-j l = (l.j ≤ 16) × (l.sum ≤ 255 * l.j) × (eqb l.sum 0 ≡ all l.j (λ k. eqb (at l.row k) 0 || eqb (at l.r k) 0))
+abbrev pub invariant-loop-entry : goal.invariant-loop-entry
+invariant-loop-entry l = (l.sum ≤ 255 * length l.yielded) × (eqb l.sum 0 ≡ all (length l.yielded) (λ j. eqb (at l.fn.row j) 0 || eqb (at l.r j) 0))

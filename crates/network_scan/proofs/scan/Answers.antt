@@ -1,43 +1,36 @@
 -- `network_scan::scan` meets its contract.
-use mathlib.Core.Path.{◌≡◌, refl, sym, subst, ◌∙◌}
-use Prim.Native.Nat.{ℕ, ◌/◌}
+use mathlib.Core.Path.{◌≡◌, sym, subst, ap, ◌∙◌}
+use Prim.Native.Nat.{ℕ, ◌≤◌, ◌<◌}
 use native.Mathlib.Omega.{arith}
-use lib.ListN.{length}
-use mathlib.Core.Bool.{Bool, true, false}
-use borrow.Author.Tests.{lt-ltb, le-ltb, le-leb, lt-leb, eq-eqb, ne_eqb}
-use Rattle.rules.specs.Network.{record_sound}
-use Rattle.network_scan.proofs.SoundLaws.{network_by}
-use Rattle.network_scan.proofs.MarkLaws.{Marked, marked_start, marked_good, marked-faulty, marked_all}
 use borrow.Author.Rules.{rules}
-use Rattle.network_scan.proofs.scan.Goals.{then-record_good, else-record_good}
+use lib.ListN.{length}
+use mathlib.Core.Bool.{Bool, ◌&&◌}
+use mathlib.Core.List.{List}
+use Rattle.rules.specs.Bytes.{all}
+use Rattle.rules.specs.Network.{record_sound, record_of, record_ceiling, record_formed, ceiling_at}
+use Rattle.laws.proofs.RecordLaws.{record_read}
+use Rattle.laws.proofs.TestLaws.{and_pass}
+use Rattle.network_scan.specs.Kinds.{ceiling_is}
+use Rattle.network_scan.proofs.MarkLaws.{Marked, marked_start, marked_good, marked-faulty, marked_all}
+use Rattle.network_scan.proofs.scan.Goals.{then-record_sound, else-record_sound}
 use Rattle.network_scan.proofs.scan.Goals as goal
 
-pub returns-then-bytes-eq0 : goal.returns-then-bytes-eq0
-returns-then-bytes-eq0 c =
-    let a = c.args in
-    sym (network_by a.ks a.m a.network.now false _ _ (le-ltb 0 (length a.network.now) (omega arith)) refl refl)
-
-pub returns-then-bytes-ne0 : goal.returns-then-bytes-ne0
-returns-then-bytes-ne0 c =
-    let a = c.args in
-    sym (network_by a.ks a.m a.network.now true false _ (lt-ltb 0 (length a.network.now) (omega arith)) (ne_eqb _ _ c.if-bytes-ne0.true) refl)
-
-pub returns-then-count-gt-MAX_RECORDS : goal.returns-then-count-gt-MAX_RECORDS
-returns-then-count-gt-MAX_RECORDS c =
-    let a = c.args in
-    sym (network_by a.ks a.m a.network.now true true false (lt-ltb 0 (length a.network.now) (omega arith)) (eq-eqb _ _ c.if-bytes-ne0.false) (lt-leb _ _ c.if-count-gt-MAX_RECORDS.true))
-
 pub loop-k-init : goal.loop-k-init
-loop-k-init c = (search rules, marked_start _)
+loop-k-init c = marked_start _
 
 pub loop-k-preserved : goal.loop-k-preserved
 loop-k-preserved c =
     let a = c.args in
     let l = c.loop-k in
-    let good : ℕ → Bool = record_sound a.ks a.m a.network.now in
-    elim c.if-record_good.branch [
-      | then-record_good w ↦ rw w.marks-is (search rules, marked_good good l.marks l.k l.invariant.1 (omega arith) (sym c.record_good.ensures ∙ w.if-record_good.true))
-      | else-record_good w ↦ rw w.marks-is (search rules, marked-faulty good l.marks l.k l.invariant.1 (omega arith) (sym c.record_good.ensures ∙ w.if-record_good.false))
+    let net : List ℕ = a.network.now in
+    let good : ℕ → Bool = record_sound a.ks a.m net in
+    let read = record_read net l.k c.as_chunks.ensures.front (omega arith) in
+    let few : l.k < 4096 = search rules in
+    let sound : c.record_sound.result ≡ good l.k =
+    c.record_sound.ensures ∙ ap (λ (r : List ℕ). record_formed a.ks a.m l.k r && ceiling_is (record_ceiling (ceiling_at net) (record_of a.ks r)) r) read in
+    elim c.if-record_sound.branch [
+      | then-record_sound w ↦ rw w.marks-is (marked_good good l.marks l.k l.invariant few (sym sound ∙ w.if-record_sound.true))
+      | else-record_sound w ↦ rw w.marks-is (marked-faulty good l.marks l.k l.invariant few (sym sound ∙ w.if-record_sound.false))
     ]
 
 pub returns : goal.returns
@@ -45,10 +38,10 @@ returns c =
     let a = c.args in
     let l = c.loop-k in
     let good : ℕ → Bool = record_sound a.ks a.m a.network.now in
-    let n = length a.network.now / 16 in
+    let n : ℕ = length c.as_chunks.result.0.now in
+    let few : n ≤ 4096 = search rules in
     let e : l.k ≡ n = omega arith in
     c.all_marked.ensures
-    ∙ marked_all good l.marks n (subst (Marked good l.marks) e l.invariant.1)
-    ∙ sym
-    (network_by a.ks a.m a.network.now true true true (lt-ltb 0 (length a.network.now) (omega arith)) (eq-eqb _ _ c.if-bytes-ne0.false)
-    (le-leb _ _ c.if-count-gt-MAX_RECORDS.false))
+    ∙ marked_all good l.marks n (subst (Marked good l.marks) e l.invariant) few
+    ∙ ap (λ (i : ℕ). all i good) c.as_chunks.ensures.front_len
+    ∙ sym (and_pass _ (sym c.length_sound.ensures ∙ c.if-not-length_sound.false))

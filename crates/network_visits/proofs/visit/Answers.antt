@@ -38,15 +38,6 @@ returns-then-before c =
       kept = past_same;
     }
 
-pub grade_at-grade-requires : goal.grade_at-grade-requires
-grade_at-grade-requires c = c.requires.ready
-
-pub bounds-known-cell-2 : goal.bounds-known-cell-2
-bounds-known-cell-2 c = low (goal.at.bounds-known-cell-2 c).Else-cells-cell
-
-pub shape_of-work : goal.shape_of-work
-shape_of-work c = c.grade_at-grade.ensures.kept.long
-
 pub returns : goal.returns
 returns c =
     let a = c.args in

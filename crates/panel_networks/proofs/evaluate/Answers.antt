@@ -1,15 +1,15 @@
 -- `panel_networks::evaluate` meets its contract.
 use Rattle.panel_answers.proofs.ShapeLaws.{made}
 use Rattle.panel_networks.proofs.EvaluateLaws.{evaluates, refuses}
-use Rattle.shape.proofs.ShapeLaws.{makes_accepted, makes_refused}
+use Rattle.shape.proofs.ShapeLaws.{makes_ok, makes_err}
 use Rattle.panel_networks.proofs.evaluate.Goals as goal
 
-pub returns-in-Accepted : goal.returns-in-Accepted
-returns-in-Accepted c =
+pub returns-in-Ok : goal.returns-in-Ok
+returns-in-Ok c =
     let a = c.args in
-    evaluates a.network.now a.shape.now a.cell a.work.now _ _ _ _ (made a.shape.now (makes_accepted c.from_bytes.ensures c.in-Accepted.is)) c.evaluate.ensures c.of_evaluation.ensures
+    evaluates a.network.now a.shape.now a.cell a.work.now _ _ _ _ (made a.shape.now (makes_ok c.from_bytes.ensures c.in-Ok.is)) c.evaluate.ensures c.of_evaluation.ensures
 
-pub returns-in-Refused : goal.returns-in-Refused
-returns-in-Refused c =
+pub returns-in-Err : goal.returns-in-Err
+returns-in-Err c =
     let a = c.args in
-    refuses a.network.now a.shape.now a.cell a.work.now _ _ (makes_refused c.from_bytes.ensures c.in-Refused.is) c.of_evaluation-in-Refused.ensures
+    refuses a.network.now a.shape.now a.cell a.work.now _ _ (makes_err c.from_bytes.ensures c.in-Err.is) c.of_evaluation-in-Err.ensures

@@ -10,12 +10,12 @@ returns-then-shape-lt-BYTES c =
 pub put_shape-requires : goal.put_shape-requires
 put_shape-requires c = c.if-shape-lt-BYTES.false
 
-pub returns-in-Refused : goal.returns-in-Refused
-returns-in-Refused c =
+pub returns-in-Err : goal.returns-in-Err
+returns-in-Err c =
     let a = c.args in
-    read_refuses a.file.now a.shape.now a.lower.now a.upper.now c.if-shape-lt-BYTES.false _ _ c.of_refusal.result _ _ c.in-Refused.is c.read_table.ensures c.of_refusal.ensures
+    read_refuses a.file.now a.shape.now a.lower.now a.upper.now c.if-shape-lt-BYTES.false _ _ c.of_refusal.result _ _ c.in-Err.is c.read_table.ensures c.of_refusal.ensures
 
-pub returns-in-Table : goal.returns-in-Table
-returns-in-Table c =
+pub returns-in-Ok : goal.returns-in-Ok
+returns-in-Ok c =
     let a = c.args in
-    reads a.file.now a.shape.now a.lower.now a.upper.now c.if-shape-lt-BYTES.false _ _ _ _ _ c.in-Table.is c.read_table.ensures c.put_shape.ensures
+    reads a.file.now a.shape.now a.lower.now a.upper.now c.if-shape-lt-BYTES.false _ _ _ _ _ c.in-Ok.is c.read_table.ensures c.put_shape.ensures

@@ -5,4 +5,4 @@ use Rattle.laws.proofs.LineLaws.{step-all}
 use Rattle.places.proofs.cell_count.Goals as goal
 
 pub returns : goal.returns
-returns c = c.step.ensures ∙ step-all c.before.args.ks 8 (search rules)
+returns c = c.step.ensures ∙ step-all c.args.ks 8 (search rules)

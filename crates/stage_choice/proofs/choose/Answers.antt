@@ -1,18 +1,11 @@
 -- `stage_choice::choose` meets its contract.
 use mathlib.Core.Path.{subst}
-use native.Mathlib.Omega.{arith}
 use Rattle.rules.specs.declared.Gate.{Gate}
 use Rattle.rules.specs.Settings.{settings_of}
 use Rattle.stage_choice.specs.Choosing.{Decided}
 use Rattle.stage_choice.proofs.ChoiceLaws.{own-length, seek_min, seek_max, is-chosen}
 use borrow.Author.Rules.{rules}
 use Rattle.stage_choice.proofs.choose.Goals as goal
-
-pub first_pair-for_max-requires : goal.first_pair-for_max-requires
-first_pair-for_max-requires c = let p = c.requires.0 in let r = p.room in (p.own, omega arith)
-
-pub first_pair-for_min-requires : goal.first_pair-for_min-requires
-first_pair-for_min-requires c = let p = c.requires.0 in let r = p.room in (p.own, omega arith)
 
 pub seek-by_min-requires : goal.seek-by_min-requires
 seek-by_min-requires c = let p = c.requires in seek_min p.0 p.1 p.2 c.first_pair-for_min.ensures
@@ -22,9 +15,8 @@ seek-by_max-requires c = let p = c.requires in seek_max p.0 p.1 p.2 c.first_pair
 
 pub returns : goal.returns
 returns c =
-    let s = c.before in
-    let p = s.requires.0 in
+    let p = c.requires.0 in
     let by-min = c.seek-by_min in
     let by-max = c.seek-by_max in
     let d = subst (λ (g : Gate). Decided g by-max.result by-min.result c.decide-choice.result) c.tie-tie.ensures c.decide-choice.ensures in
-    is-chosen (own-length p) by-min.ensures by-max.ensures (settings_of s.args.how) c.decide-choice.result p.own d c.settle.ensures (search rules)
+    is-chosen (own-length p) by-min.ensures by-max.ensures (settings_of c.args.how) c.decide-choice.result p.own d c.settle.ensures (search rules)

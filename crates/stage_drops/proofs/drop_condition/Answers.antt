@@ -24,23 +24,15 @@ overflow_mul-count c = let few = c.requires.1.shaped.few in omega (arith, (count
 pub nonzero_div-count : goal.nonzero_div-count
 nonzero_div-count c = (counts (goal.at.nonzero_div-count c).Start).size
 
-pub overflow_mul-left : goal.overflow_mul-left
-overflow_mul-left c = let b = c.before in let few = b.requires.1.shaped.few in omega (arith, packed_low (counts (goal.at.overflow_mul-left c).Start))
-
 pub pack-requires : goal.pack-requires
 pack-requires c =
-    let b = c.before in
-    let p = b.requires.1 in
+    let p = c.requires.1 in
     let n = counts (goal.at.pack-requires c).Start in
     (counted_blocks _ _ n (let e = p.own in let r = p.room in omega arith), p.own ∙ sym n.all, inl refl)
 
-pub overflow_sub-n : goal.overflow_sub-n
-overflow_sub-n c = let b = c.before in let e = b.requires.1.own in omega (arith, packed_low (counts (goal.at.overflow_sub-n c).Start))
-
 pub pack-requires-2 : goal.pack-requires-2
 pack-requires-2 c =
-    let b = c.before in
-    let p = b.requires.1 in
+    let p = c.requires.1 in
     let n = counts (goal.at.pack-requires-2 c).Start in
     let e = p.own in
     let l = packed_low n in
@@ -48,11 +40,10 @@ pack-requires-2 c =
 
 pub returns : goal.returns
 returns c =
-    let b = c.before in
-    let s = b.args in
+    let s = c.args in
     let n = counts (goal.at.returns c).Start in
-    let e = b.requires.1.own in
+    let e = c.requires.1.own in
     let left = s.step * (s.n / (s.step * get_or s.ks s.i 0)) in
     let z : left + (s.n - left) ≡ s.n = let l = packed_low n in omega arith in
-    both_packed b.requires.1 (search rules) n c.pack.ensures
+    both_packed c.requires.1 (search rules) n c.pack.ensures
     (subst (λ (a : ℕ). Laid c.pack.new.w left (line_extremes false c.pack.new.w a s.step (get_or s.ks s.i 0) (s.n / (s.step * get_or s.ks s.i 0))) left c.pack-2.new.w) z c.pack-2.ensures)

@@ -1,5 +1,5 @@
 use mathlib.Core.List.{List}
-use Prim.Native.Nat.{ℕ, ◌+◌, ◌-◌, ◌*◌, ◌≤◌}
+use Prim.Native.Nat.{ℕ, ◌+◌, ◌*◌, ◌≤◌}
 use Rattle.rules.specs.Cell.{width}
 use Rattle.rules.specs.Settings.{settings_of}
 use Rattle.stages.specs.Begins.{may_take}

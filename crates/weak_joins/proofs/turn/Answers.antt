@@ -2,9 +2,6 @@
 use Rattle.weak_joins.proofs.OpenLaws.{turn-first, turn-second, turns_max, turns_min}
 use Rattle.weak_joins.proofs.turn.Goals as goal
 
-pub copy-requires : goal.copy-requires
-copy-requires c = c.requires.parts
-
 pub complement-requires : goal.complement-requires
 complement-requires c = turn-first c.requires
 

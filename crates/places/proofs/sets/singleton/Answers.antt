@@ -1,7 +1,6 @@
 -- `places::sets::singleton` meets its contract.
-use Rattle.places.proofs.PlaceLaws.{bits-singleton}
-use borrow.Author.Rules.{rules}
+use Rattle.places.proofs.PlaceLaws.{shift-singleton}
 use Rattle.places.proofs.sets.singleton.Goals as goal
 
 pub returns : goal.returns
-returns c = bits-singleton c.args.i (search rules)
+returns c = shift-singleton c.args.i c.requires

@@ -26,4 +26,4 @@ pub shape_of-w : goal.shape_of-w
 shape_of-w c = (laid (goal.at.shape_of-w c).Joined-step-eq1).len
 
 pub returns : goal.returns
-returns c = value-begun c.requires (laid (goal.at.returns c).Joined-step-eq1) c.put_selector.ensures
+returns c = rw c.of_record.ensures (value-begun c.requires (laid (goal.at.returns c).Joined-step-eq1) c.put_selector.ensures)

@@ -1,8 +1,9 @@
-use mathlib.Core.Path.{◌≡◌}
-use Prim.Native.Nat.{◌-◌, ◌≤◌}
-use lib.ListN.{length}
+use Rattle.std.proofs.Common.{◌≡◌, ◌-◌, ◌/◌, length}
 use Rattle.rules.specs.TableFile.{listed_over}
 use Rattle.table_file.proofs.writing.store.Given as goal
 
-abbrev pub invariant-loop-k : goal.invariant-loop-k
-invariant-loop-k l = (l.k ≤ l.count) × (length l.lower ≡ length l.initial.lower) × (length l.upper ≡ length l.initial.upper) × (listed_over l.file l.ks 1 l.k (l.count - l.k) l.lower ≡ listed_over l.file l.ks 1 0 l.count l.initial.lower) × (listed_over l.file l.ks 2 l.k (l.count - l.k) l.upper ≡ listed_over l.file l.ks 2 0 l.count l.initial.upper)
+abbrev pub invariant-loop-r : goal.invariant-loop-r
+invariant-loop-r l = record {
+  low : listed_over l.file l.ks 1 l.r-index (length l.file / 16 - l.r-index) l.lower ≡ listed_over l.file l.ks 1 0 (length l.file / 16) l.initial.lower;
+  high : listed_over l.file l.ks 2 l.r-index (length l.file / 16 - l.r-index) l.upper ≡ listed_over l.file l.ks 2 0 (length l.file / 16) l.initial.upper;
+}

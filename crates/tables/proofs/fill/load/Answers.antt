@@ -1,21 +1,18 @@
 -- `tables::fill::load` meets its contract.
-use mathlib.Core.Path.{refl, sym, ap, ◌∙◌}
-use native.Mathlib.Omega.{arith}
+use Rattle.std.proofs.Common.{◌∙◌, ap, length, sym}
+use Rattle.std.proofs.lemmas.List.{length-take-le}
+use lib.Seq.{get_or-take}
 use native.Mathlib.Nat.{zero-add}
-use borrow.Author.Rules.{rules}
 use Rattle.rules.specs.Bytes.{at}
-use Rattle.tables.proofs.PartLaws.{filled_none, filled_more, filled_laid, part_at}
+use Rattle.tables.specs.Part.{part}
+use Rattle.tables.proofs.LendLaws.{laid_over}
+use Rattle.tables.proofs.PartLaws.{part_at}
 use Rattle.tables.proofs.fill.load.Goals as goal
-
-pub loop-c-init : goal.loop-c-init
-loop-c-init c = (search rules, filled_none _ _ _)
-
-pub loop-c-preserved : goal.loop-c-preserved
-loop-c-preserved c =
-    let p = c.requires in
-    (search rules, filled_more _ c.loop-c.invariant.1 (omega arith) refl)
 
 pub returns : goal.returns
 returns c =
     let a = c.args in
-    filled_laid _ a.n (omega arith) c.loop-c.invariant.1 (λ k h. sym (part_at a.from.now 0 a.n k h ∙ ap (at a.from.now) (zero-add k)))
+    let from = a.from.now in
+    let e = c.put.ensures in
+    laid_over a.to a.n c.put.new.cells (part from 0 a.n) c.requires.1 (ap length e ∙ length-take-le a.n from c.requires.0)
+    (λ k h. ap (λ l. at l k) e ∙ get_or-take a.n from k 0 h ∙ sym (part_at from 0 a.n k h ∙ ap (at from) (zero-add k)))

@@ -1,20 +1,15 @@
 -- `tables::fill::load_complement` meets its contract.
-use mathlib.Core.Path.{refl}
-use native.Mathlib.Omega.{arith}
-use borrow.Author.Rules.{rules}
-use Rattle.tables.proofs.PartLaws.{filled_none, filled_more, filled_all}
+use Rattle.std.proofs.Common.{◌-◌, ◌∙◌, ap, sym, arith}
+use Rattle.std.proofs.lemmas.List.{length-take-le}
+use lib.Seq.{get_or-take}
+use Rattle.rules.specs.Bytes.{at, tabulate}
+use Rattle.laws.proofs.TableLaws.{at-tabulate}
+use Rattle.tables.proofs.LendLaws.{laid_over, lent_length}
 use Rattle.tables.proofs.fill.load_complement.Goals as goal
 
-pub loop-c-init : goal.loop-c-init
-loop-c-init c = (search rules, filled_none _ _ _)
-
-pub overflow_sub-w : goal.overflow_sub-w
-overflow_sub-w c = c.requires.2 c.loop-c.c (omega arith)
-
-pub loop-c-preserved : goal.loop-c-preserved
-loop-c-preserved c =
-    let p = c.requires in
-    (search rules, filled_more _ c.loop-c.invariant.1 (omega arith) refl)
-
 pub returns : goal.returns
-returns c = filled_all c.args.n (omega arith) c.loop-c.invariant.1
+returns c =
+    let s = c.args in
+    let from = s.from.now in
+    laid_over s.to s.n c.lacks.new.cells (tabulate s.n (λ k. s.top - at from k)) c.requires.1 (c.lacks.auto.cells ∙ lent_length s.to s.n s.w.now c.requires.1)
+    (λ k h. c.lacks.ensures k (omega (arith, length-take-le s.n from c.requires.0)) ∙ ap (λ x. s.top - x) (get_or-take s.n from k 0 h) ∙ sym (at-tabulate s.n _ k h))

@@ -1,39 +1,21 @@
 -- `tables::limits::limits_sound` meets its contract.
-use mathlib.Core.Path.{sym}
-use native.Mathlib.Omega.{arith}
-use borrow.Author.Count.{below_more}
-use borrow.Author.Rules.{rules}
-use borrow.Author.Tests.{lt-leb, le-leb, lt-ltb, le-ltb}
-use Rattle.rules.specs.Bytes.{at}
-use Rattle.laws.proofs.TableLaws.{all_false}
-use Rattle.tables.proofs.ScanLaws.{all_passed}
+use Rattle.std.proofs.Common.{rules, tests, ◌∙◌, leb, ltb, ◌&&◌, take, ap}
+use Rattle.std.proofs.lemmas.Iterator.{YieldsList-from_slice, YieldsList-from_zip}
+use Rattle.std.proofs.lemmas.Iterator.Search.{all_from_yields_List}
+use Rattle.std.proofs.lemmas.List.{length-take-le}
+use Rattle.std.specs.Slice.Iter.{iter_rest}
+use lib.Seq.{get_or-take}
+use Rattle.laws.proofs.ChainLaws.{paired-all}
+use Rattle.laws.proofs.TableLaws.{all_same}
 use Rattle.tables.proofs.limits.limits_sound.Goals as goal
 
-pub loop-c-init : goal.loop-c-init
-loop-c-init c = (search rules, λ k h. absurd (omega arith))
-
-pub returns-then-upper-c : goal.returns-then-upper-c
-returns-then-upper-c c =
-    let s = c.args in
-    let k = c.loop-c.c in
-    sym (all_false s.n _ k (omega arith) (rw (lt-leb (at s.lower.now k) (at s.upper.now k) c.if-upper-c.true)))
-
-pub returns-then-m-upper : goal.returns-then-m-upper
-returns-then-m-upper c =
-    let s = c.args in
-    let k = c.loop-c.c in
-    sym
-    (all_false s.n _ k (omega arith)
-    (rw (le-leb (at s.lower.now k) (at s.upper.now k) c.if-upper-c.false, le-ltb (at s.upper.now k) s.m c.if-m-upper.true)))
-
-pub loop-c-preserved : goal.loop-c-preserved
-loop-c-preserved c =
-    let s = c.args in
-    let l = c.loop-c in (
-      search rules,
-      below_more _ l.c l.invariant.1
-          (rw (le-leb (at s.lower.now l.c) (at s.upper.now l.c) c.if-upper-c.false, lt-ltb (at s.upper.now l.c) s.m c.if-m-upper.false)),
-    )
-
 pub returns : goal.returns
-returns c = sym (all_passed c.args.n _ (omega arith) c.loop-c.invariant.1)
+returns c =
+    let s = c.args in
+    let low = s.lower.now in
+    let high = s.upper.now in
+    all_from_yields_List (λ p. leb p.0 p.1 && ltb p.1 s.m) c.all.new.self _ c.all.result c.all.ensures.ran
+    (YieldsList-from_zip (YieldsList-from_slice (take s.n low) (ap iter_rest c.zip.ensures.first ∙ c.iter.ensures.rest)) (YieldsList-from_slice (take s.n high) c.zip.ensures.second.0))
+    (λ x b q k. search (rules, tests))
+    ∙ paired-all (λ p. leb p.0 p.1 && ltb p.1 s.m) 0 s.n (take s.n low) (take s.n high) (length-take-le s.n low c.requires.0) (length-take-le s.n high c.requires.1)
+    ∙ all_same s.n _ _ (λ k lt. rw (get_or-take s.n low k 0 lt, get_or-take s.n high k 0 lt))

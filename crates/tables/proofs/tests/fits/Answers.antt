@@ -1,35 +1,15 @@
 -- `tables::tests::fits` meets its contract.
-use Prim.Native.Nat.{◌<◌}
-use mathlib.Core.Path.{sym, ◌∙◌, ap₂}
-use native.Mathlib.Omega.{arith}
-use borrow.Author.Tests.{le-leb, lt-leb}
-use borrow.Author.Count.{below_more}
-use borrow.Author.Rules.{rules}
-use lib.Dec.{leb}
-use Rattle.tables.proofs.PartLaws.{part_at}
-use Rattle.laws.proofs.TableLaws.{all_false}
-use Rattle.tables.proofs.ScanLaws.{all_passed}
+use Rattle.std.proofs.Common.{rules, tests, ◌∙◌, leb}
+use Rattle.std.proofs.lemmas.Iterator.{YieldsList-from_slice, YieldsList-from_zip}
+use Rattle.std.proofs.lemmas.Iterator.Search.{all_from_yields_List}
+use Rattle.tables.proofs.LendLaws.{lent}
+use Rattle.tables.proofs.ScanLaws.{list_all-parts}
 use Rattle.tables.proofs.tests.fits.Goals as goal
 
-pub loop-c-init : goal.loop-c-init
-loop-c-init c = (search rules, λ k h. absurd (omega arith))
-
-pub returns-then-w-high : goal.returns-then-w-high
-returns-then-w-high c =
-    let s = c.args in
-    let k = c.loop-c.c in
-    let h : k < s.n = omega arith in
-    sym (all_false s.n _ k h (ap₂ leb (part_at s.w.now s.low s.n k h) (part_at s.w.now s.high s.n k h) ∙ lt-leb _ _ c.if-w-high.true))
-
-pub loop-c-preserved : goal.loop-c-preserved
-loop-c-preserved c =
-    let s = c.args in
-    let l = c.loop-c in
-    let h : l.c < s.n = omega arith in (
-      search rules,
-      below_more _ l.c l.invariant.1
-          (ap₂ leb (part_at s.w.now s.low s.n l.c h) (part_at s.w.now s.high s.n l.c h) ∙ le-leb _ _ c.if-w-high.false),
-    )
-
 pub returns : goal.returns
-returns c = sym (all_passed c.args.n _ (omega arith) c.loop-c.invariant.1)
+returns c =
+    let s = c.args in
+    let w = s.w.now in
+    all_from_yields_List (λ p. leb p.0 p.1) c.all.new.self _ c.all.result c.all.ensures.ran
+    (YieldsList-from_zip (YieldsList-from_slice (lent s.low s.n w) cc) (YieldsList-from_slice (lent s.high s.n w) cc)) (λ x b q k. search (rules, tests))
+    ∙ list_all-parts leb w w s.low s.high s.n c.requires.0 c.requires.1

@@ -1,2 +1,0 @@
--- What the contracts of `grades` cite.
-pub mod Answering

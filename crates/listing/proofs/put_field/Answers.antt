@@ -1,6 +1,0 @@
--- `listing::put_field` meets its contract.
-use Rattle.listing.proofs.PutLaws.{put_then}
-use Rattle.listing.proofs.put_field.Goals as goal
-
-pub returns : goal.returns
-returns c = put_then c.put-next.ensures c.put_number.ensures

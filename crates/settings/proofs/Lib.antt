@@ -1,2 +1,0 @@
--- What several proofs use.
-pub mod ByteLaws

@@ -1,9 +1,0 @@
--- `table_records::condition_in_order` meets its contract.
-use borrow.Author.Tests.{eq-eqb, ne_eqb}
-use Rattle.table_records.proofs.condition_in_order.Goals as goal
-
-pub returns-then-shape-eq0 : goal.returns-then-shape-eq0
-returns-then-shape-eq0 c = simp (eq-eqb _ _ c.if-shape-eq0.true)
-
-pub returns-else-shape-eq0 : goal.returns-else-shape-eq0
-returns-else-shape-eq0 c = simp (ne_eqb _ _ c.if-shape-eq0.false)

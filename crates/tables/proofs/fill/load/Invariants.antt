@@ -1,7 +1,0 @@
-use Prim.Native.Nat.{◌≤◌}
-use Rattle.rules.specs.Bytes.{at}
-use Rattle.tables.proofs.PartLaws.{Filled}
-use Rattle.tables.proofs.fill.load.Given as goal
-
-abbrev pub invariant-loop-c : goal.invariant-loop-c
-invariant-loop-c l = (l.c ≤ l.n) × Filled l.initial.w l.to (at l.from) l.c l.w
