@@ -3,12 +3,14 @@ use Prim.Native.Nat.{ℕ, ◌≤◌, ◌<◌}
 use mathlib.Core.Path.{◌≡◌, sym, ◌∙◌, ap, subst}
 use mathlib.Core.List.{List, []}
 use native.Mathlib.Nat.{le_refl}
+use native.Mathlib.Omega.{arith}
 use lib.ListN.{length, take}
 use Rattle.std.proofs.Common.{None, Some, IfSome}
 use Rattle.std.specs.Prelude.{Result, Ok, Err}
 use Rattle.std.specs.declared.option.Option.{Option}
 use Rattle.std.specs.Io.KnownBytes.{Appends}
 use Rattle.std.proofs.KnownBytes.{Appends-nil}
+use Rattle.io.specs.Counts.{IsPrefixLen}
 use Rattle.rules.specs.declared.Edition.{Edition}
 use Rattle.rules.specs.declared.Refusal.{Refusal}
 use Rattle.rules.specs.Editions.{convert_call}
@@ -18,34 +20,34 @@ use Rattle.editions.specs.Converting.{Converts}
 use Rattle.editions.proofs.EditionLaws.{with_room}
 use Rattle.listing.specs.Putting.{Put}
 use Rattle.listing.proofs.LongLaws.{front_turned}
-use Rattle.listing.proofs.PutLaws.{put_front}
+use Rattle.listing.proofs.PutLaws.{put-fits, put-taken, put_front}
 use Rattle.streams.specs.Filling.{Takes}
-use Rattle.converter.specs.Replying.{Says}
+use Rattle.converter.specs.Replying.{taken, sent, Replies, Says}
 
--- what a program writes, of a file whose verdict is known
+-- a known reply
+pub reply_counts : {e : Edition} {file : List ℕ} {r : Result ℕ ℕ} {buffer : List ℕ} (s : Result ℕ ℕ) → r ≡ s → Replies e file r buffer → IsPrefixLen (taken s) buffer
+reply_counts {e} {file} {r} {buffer} s q p = subst (λ (x : Result ℕ ℕ). IsPrefixLen (taken x) buffer) q p.counts
+
 module _ {e : Edition} {file out : List ℕ} {answer : Result (Unit {0}) Refusal} {out' : List ℕ} (c : Converts e file out answer out') (room : length file ≤ length out) where
   -- an output that is longer than the file makes no difference
   same-room : convert_call e file (length out) ≡ convert_call e file (length file)
   same-room = with_room e file (length out) room ∙ sym (with_room e file (length file) (le_refl (length file)))
 
-  pub file_said : {o o' r : Option (List ℕ)} → answer ≡ Ok tt → Appends o o' (take (length file) out') → Says e file o o' r r
-  file_said {o} {o'} {r} q w =
+  pub file_replied : answer ≡ Ok tt → length out' ≡ length out → Replies e file (Ok (length file)) out'
+  file_replied q long =
       let v = was_ok (λ turned. tt) (convert_call e file (length out)) (sym q ∙ c.answer) in
-      let same = ap (λ (x : List ℕ). record { output = x; error = [] }) (c.front v.0 v.1) ∙ sym (ap said (sym same-room ∙ v.1)) in
       record {
-        written = subst (λ (x : Said). Appends o o' x.output) same w;
-        complained = subst (λ (x : Said). Appends r r x.error) same (Appends-nil r);
+        counts = (omega arith, sym (c.converted q).as_long);
+        says = ap (λ (x : List ℕ). record { output = x; error = [] }) (c.front v.0 v.1) ∙ sym (ap said (sym same-room ∙ v.1));
       }
 
-  pub refusal_said : {q : Refusal} {n : ℕ} {buffer : List ℕ} {o r r' : Option (List ℕ)} → answer ≡ Err q → Put out' 0 (refusal_line q) 14 n buffer → 14 ≤ length buffer
-      → Appends r r' (take n buffer) → Says e file o o r r'
-  refusal_said {q} {n} {buffer} {o} {r} {r'} h p long w =
-      let same =
-      ap (λ (x : List ℕ). record { output = []; error = x }) (put_front p long)
-      ∙ sym (ap said (sym same-room ∙ was_err (λ turned. tt) (convert_call e file (length out)) (sym h ∙ c.answer))) in
+  pub refusal_replied : {q : Refusal} {n : ℕ} {buffer : List ℕ} → answer ≡ Err q → Put out' 0 (refusal_line q) 14 n buffer → 14 ≤ length buffer → Replies e file (Err n) buffer
+  refusal_replied {q} {n} {buffer} h p long =
       record {
-        written = subst (λ (x : Said). Appends o o x.output) same (Appends-nil o);
-        complained = subst (λ (x : Said). Appends r r' x.error) same w;
+        counts = (put-fits p long, put-taken p long);
+        says =
+            ap (λ (x : List ℕ). record { output = []; error = x }) (put_front p long)
+            ∙ sym (ap said (sym same-room ∙ was_err (λ turned. tt) (convert_call e file (length out)) (sym h ∙ c.answer)));
       }
 
 -- what is said of the file that a buffer was filled with is said of the whole input
@@ -57,4 +59,23 @@ input_said {e} (Some file) n buffer {o} {o'} {r} {r'} long t s =
     record {
       written = subst (λ (x : Said). Appends o o' x.output) same s.written;
       complained = subst (λ (x : Said). Appends r r' x.error) same s.complained;
+    }
+
+-- a reply that was written to its end
+pub file_said : {e : Edition} {file : List ℕ} {a : Result ℕ ℕ} {n : ℕ} {buffer : List ℕ} {o o' r : Option (List ℕ)} → a ≡ Ok n → Replies e file a buffer
+    → Appends o o' (take n buffer) → Says e file o o' r r
+file_said {e} {file} {a} {n} {buffer} {o} {o'} {r} q p w =
+    let same = subst (λ (x : Result ℕ ℕ). sent x buffer ≡ turned_from e file) q p.says in
+    record {
+      written = subst (λ (x : Said). Appends o o' x.output) same w;
+      complained = subst (λ (x : Said). Appends r r x.error) same (Appends-nil r);
+    }
+
+pub refusal_said : {e : Edition} {file : List ℕ} {a : Result ℕ ℕ} {n : ℕ} {buffer : List ℕ} {o r r' : Option (List ℕ)} → a ≡ Err n → Replies e file a buffer
+    → Appends r r' (take n buffer) → Says e file o o r r'
+refusal_said {e} {file} {a} {n} {buffer} {o} {r} {r'} q p w =
+    let same = subst (λ (x : Result ℕ ℕ). sent x buffer ≡ turned_from e file) q p.says in
+    record {
+      written = subst (λ (x : Said). Appends o o x.output) same (Appends-nil o);
+      complained = subst (λ (x : Said). Appends r r' x.error) same w;
     }

@@ -1,14 +1,26 @@
 // The programs that turn a table file into the other edition.
 #![tactic(auto)]
 
-ghost use Rattle.std.specs.Prelude.{◌≡◌, OnOk, IfSome, Err};
+ghost use Rattle.std.specs.Prelude.{◌≡◌, ◌≤◌, length, OnOk, IfSome, Err};
 ghost use Rattle.std.specs.Io.KnownBytes.{Keeps};
-ghost use Rattle.converter.specs.Replying.{Says};
+ghost use Rattle.converter.specs.Replying.{Replies, Says};
 ghost use Rattle.converter.specs.declared.Failure.{Failure};
 
 use rules::Edition;
 use std::io::{Read, Write};
 use streams::INPUT;
+
+// What a program writes for a file: so many bytes of the buffer, on standard output, or on standard error those of a
+// refusal's line.
+fn answer(out: &mut [u8], file: &[u8], edition: Edition) -> Result<usize, usize>
+    requires { (length file.now ≤ length out.old) × (14 ≤ length out.old) }
+    ensures { Replies edition file.now result out.new }
+{
+    match editions::convert(file, out, edition) {
+        Ok(()) => Ok(file.len()),
+        Err(refusal) => Err(listing::put_refusal(out, refusal)),
+    }
+}
 
 // What kept a program from answering.
 #[derive(Clone, Copy)]
@@ -29,8 +41,7 @@ impl From<streams::Unread> for Failure {
     }
 }
 
-// A program for files of the given edition, but for its complaints: the file goes to standard output, or a refusal's
-// line to standard error.
+// A program for files of the given edition, but for its complaints.
 pub fn turn<R: Read, W: Write, E: Write>(
     stdin: &mut R,
     stdout: &mut W,
@@ -46,14 +57,9 @@ pub fn turn<R: Read, W: Write, E: Write>(
     let mut file = [0u8; INPUT];
     let mut out = [0u8; INPUT];
     let len = streams::read_file(stdin, &mut file)?;
-    match editions::convert(&file[..len], &mut out, edition) {
-        Ok(()) => stdout
-            .write_all(&out[..len])
-            .map_err(|_| Failure::Unwritten),
-        Err(refusal) => {
-            let n = listing::put_refusal(&mut out, refusal);
-            stderr.write_all(&out[..n]).map_err(|_| Failure::Unsaid)
-        }
+    match answer(&mut out, &file[..len], edition) {
+        Ok(n) => stdout.write_all(&out[..n]).map_err(|_| Failure::Unwritten),
+        Err(n) => stderr.write_all(&out[..n]).map_err(|_| Failure::Unsaid),
     }
 }
 

@@ -1,23 +1,24 @@
 -- Records turned where they stand, one after the other, and the promise of the call, case by case.
-use Prim.Native.Nat.{ℕ, ◌+◌, ◌-◌, ◌*◌, ◌/◌, ◌≤◌, ◌<◌}
+use Prim.Native.Nat.{ℕ, zero, suc, ◌+◌, ◌-◌, ◌*◌, ◌/◌, ◌≤◌, ◌<◌}
 use mathlib.Core.Path.{◌≡◌, refl, sym, ◌∙◌, ap, ap₂, subst}
 use mathlib.Core.List.{List, [], ◌∷◌, ◌++◌, append_assoc}
 use native.Mathlib.Omega.{arith}
 use borrow.Rule.Slice.PartMut.{put_mid, Post-is}
 use lib.Dec.{T, leb}
 use Rattle.std.specs.Prelude.{Ok}
-use lib.ListN.{length, take, drop, set}
-use lib.Seq.{take_at, drop_at, drop-drop}
+use lib.ListN.{length, take, drop, set, length-append, length-drop}
+use lib.Seq.{take_at, drop_at, take-length, drop-drop}
 use Rattle.rules.specs.declared.Edition.{Edition}
 use Rattle.rules.specs.declared.Edition.TheVariants.{Ours, Spreadsheet}
 use Rattle.rules.specs.declared.Refusal.TheVariants.{ShortBuffer}
 use Rattle.rules.specs.Bytes.{at, record_at, map_records, word}
 use Rattle.rules.specs.Verdict.{Verdict, accepted, unless, and_then, answer_of, outcome_of}
-use Rattle.rules.specs.TableFile.{Seen, cell_sound, judge_file}
+use Rattle.rules.specs.TableFile.{Seen, cell_kind, cell_sound, judge_file}
 use Rattle.rules.specs.Editions.{record_as_other, file_as_other, convert_call, Converted}
 use Rattle.laws.proofs.VerdictLaws.{row_passed, then_passed, accepted-same, result-says, was_ok}
 use Rattle.laws.proofs.GradeSetLaws.{span-some, sound_spans}
-use Rattle.laws.proofs.RecordLaws.{record_length, map_next, map-length}
+use Rattle.laws.proofs.RecordLaws.{record_length, record_front, map_next, map-length}
+use Rattle.tables.specs.Part.{part}
 use Rattle.table_file.proofs.FileLaws.{accepted_file, limits_in, all-records, few-grades}
 use Rattle.editions.specs.Converting.{Turnable, AllTurnable, out_after, Converts}
 use Rattle.editions.proofs.EditionLaws.{with_room, other_length, converted}
@@ -30,25 +31,43 @@ four-sets (a ∷ b ∷ []) w x y z h = absurd (omega arith)
 four-sets (a ∷ b ∷ c ∷ []) w x y z h = absurd (omega arith)
 four-sets (a ∷ b ∷ c ∷ d ∷ r) w x y z h = refl
 
--- the first k records of a file, turned, at the front of a buffer that was w
-module _ (e : Edition) (file w : List ℕ) where
+-- the first k records of a buffer are turned, and the rest is as it was
+module _ (e : Edition) (w : List ℕ) where
   abbrev pub turned : ℕ → List ℕ
-  turned k = map_records (record_as_other e) file 0 k
+  turned k = map_records (record_as_other e) w 0 k
 
-  turned-length : (k : ℕ) → 16 * k ≤ length file → length (turned k) ≡ 16 * k
-  turned-length k h = map-length (record_as_other e) file 0 k (λ j a b. other_length e (record_at file j) (record_length file j (omega arith)))
+  turned-length : (k : ℕ) → 16 * k ≤ length w → length (turned k) ≡ 16 * k
+  turned-length k h = map-length (record_as_other e) w 0 k (λ j a b. other_length e (record_at w j) (record_length w j (omega arith)))
 
-  module _ (k : ℕ) (out : List ℕ) (is : out ≡ turned k ++ drop (16 * k) w) (more : 16 * k + 16 ≤ length file) where
+  module _ (k : ℕ) (out : List ℕ) (is : out ≡ turned k ++ drop (16 * k) w) (room : 16 * k ≤ length w) where
+    pub out-length : length out ≡ length w
+    out-length = ap length is ∙ length-append (turned k) (drop (16 * k) w) ∙ omega (arith, turned-length k room, length-drop (16 * k) w)
+
+    behind : drop (16 * k) out ≡ drop (16 * k) w
+    behind = ap (drop (16 * k)) is ∙ drop_at (turned k) (drop (16 * k) w) (16 * k) (turned-length k room)
+
+    pub next_record : record_at out k ≡ record_at w k
+    next_record = ap (take 16) behind
+
     -- one more
-    pub turned-next : (r : List ℕ) → r ≡ record_as_other e (record_at file k) → put_mid (16 * k) (16 * k + 16 - 16 * k) out r ≡ turned (k + 1) ++ drop (16 * (k + 1)) w
+    pub turned-next : (r : List ℕ) → r ≡ record_as_other e (record_at w k) → put_mid (16 * k) (16 * k + 16 - 16 * k) out r ≡ turned (k + 1) ++ drop (16 * (k + 1)) w
     turned-next r q =
         let a : 16 * k + 16 ≡ 16 * (k + 1) = omega arith in
-        let long : length (turned k) ≡ 16 * k = turned-length k (omega arith) in
-        let behind : drop (16 * k) out ≡ drop (16 * k) w = ap (drop (16 * k)) is ∙ drop_at (turned k) (drop (16 * k) w) (16 * k) long in
-        ap₂ (λ (x y : List ℕ). x ++ (r ++ y)) (ap (take (16 * k)) is ∙ take_at (turned k) (drop (16 * k) w) (16 * k) long)
+        ap₂ (λ (x y : List ℕ). x ++ (r ++ y)) (ap (take (16 * k)) is ∙ take_at (turned k) (drop (16 * k) w) (16 * k) (turned-length k room))
         (Post-is (16 * k) (16 * k + 16) out (omega arith) ∙ sym (drop-drop 16 (16 * k) out) ∙ ap (drop 16) behind ∙ drop-drop 16 (16 * k) w ∙ ap (λ (i : ℕ). drop i w) a)
         ∙ sym (append_assoc (turned k) r (drop (16 * (k + 1)) w))
-        ∙ ap (λ (x : List ℕ). x ++ drop (16 * (k + 1)) w) (ap (λ (x : List ℕ). turned k ++ x) q ∙ sym (map_next (record_as_other e) file k))
+        ∙ ap (λ (x : List ℕ). x ++ drop (16 * (k + 1)) w) (ap (λ (x : List ℕ). turned k ++ x) q ∙ sym (map_next (record_as_other e) w k))
+
+-- the first records of a buffer, each changed by f, are those of its front
+map-front : (f : List ℕ → List ℕ) (file rest : List ℕ) (k n : ℕ) → 16 * (k + n) ≤ length file → map_records f (file ++ rest) k n ≡ map_records f file k n
+map-front f file rest k zero h = refl
+map-front f file rest k (suc n) h =
+    ap₂ (λ (x y : List ℕ). f x ++ y) (record_front file rest k (omega arith)) (map-front f file rest (suc k) n (omega arith))
+
+-- a file copied whole to a buffer's front
+pub copied : (file rest : List ℕ) → part file 0 (length file) ++ rest ≡ file ++ rest
+unfolding part
+copied file rest = ap (λ (f : List ℕ). f ++ rest) (take-length file)
 
 -- what reading accepts can be turned
 turnable : (e : Edition) (m : ℕ) (r : List ℕ) → m ≤ 16 → T (cell_sound e m r) → Turnable e r
@@ -59,8 +78,16 @@ module _ (e : Edition) (file : List ℕ) (s : Seen) (q : judge_file e file ≡ a
   pub whole : 16 * (length file / 16) ≡ length file
   whole = all-records (accepted_file e file s q)
 
-  pub all_turnable : AllTurnable e file (length file / 16)
-  all_turnable k h y = let a = accepted_file e file s q in turnable e s.m (record_at file k) (few-grades a) ((a.cells k h).sound y)
+  -- it and what it is turned into, at a buffer's front
+  pub all_turnable : (rest : List ℕ) → AllTurnable e (file ++ rest) (length file / 16)
+  all_turnable rest k h =
+      let a = accepted_file e file s q in
+      subst (λ (r : List ℕ). at r 0 ≡ cell_kind e → Turnable e r) (sym (record_front file rest k (omega arith)))
+      (λ y. turnable e s.m (record_at file k) (few-grades a) ((a.cells k h).sound y))
+
+  pub turned_file : (rest : List ℕ) → map_records (record_as_other e) (file ++ rest) 0 (length file / 16) ++ drop (16 * (length file / 16)) (file ++ rest) ≡ file_as_other e file ++ rest
+  turned_file rest =
+      ap₂ (λ (x y : List ℕ). x ++ y) (map-front (record_as_other e) file rest 0 (length file / 16) (omega arith)) (drop_at file rest (16 * (length file / 16)) (sym whole))
 
 module _ (e : Edition) (file out : List ℕ) (bytes : (j : ℕ) → at file j < 256) where
   accepted-converted : (turned : List ℕ) → convert_call e file (length out) ≡ accepted turned → Converted e file turned

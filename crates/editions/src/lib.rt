@@ -2,70 +2,65 @@
 // is judged whole before a byte of the output is written.
 #![tactic(auto)]
 
-ghost use Rattle.std.specs.Prelude.{◌*◌, ◌/◌, ◌≤◌, ◌≡◌, ◌++◌, length, drop};
+ghost use Rattle.std.specs.Prelude.{◌*◌, ◌≤◌, ◌≡◌, ◌++◌, length, drop};
 ghost use Rattle.rules.specs.declared.Edition.TheVariants.{Ours, Spreadsheet};
-ghost use Rattle.rules.specs.Bytes.{at};
+ghost use Rattle.rules.specs.Bytes.{at, map_records};
 ghost use Rattle.rules.specs.TableFile.{cell_kind};
-ghost use Rattle.rules.specs.Editions.{cell_as_other, record_as_other, file_as_other};
+ghost use Rattle.rules.specs.Editions.{cell_as_other, record_as_other};
 ghost use Rattle.editions.specs.Converting.{Turnable, AllTurnable, Converts};
 
 use rules::kinds::TableKind;
 use rules::{Edition, RECORD, Refusal};
+use tables::fill;
 
 // A cell record of ours: the set of its grades in the place of its limits.
-fn limits_to_set(r: &[u8; RECORD]) -> [u8; RECORD]
-    requires { Turnable Ours r.now }
-    ensures { result ≡ cell_as_other Ours r.now }
+fn limits_to_set(r: &mut [u8])
+    requires { (length r.old ≡ 16) × Turnable Ours r.old }
+    ensures { r.new ≡ cell_as_other Ours r.old }
 {
     let set = grade_sets::span(u32::from(r[1]), u32::from(r[2]));
     let [low, high, _, _] = set.to_le_bytes();
-    let mut turned = *r;
-    turned[0] = u8::from(TableKind::Cell(Edition::Spreadsheet));
-    turned[1] = 0;
-    turned[2] = low;
-    turned[3] = high;
-    turned
+    r[0] = u8::from(TableKind::Cell(Edition::Spreadsheet));
+    r[1] = 0;
+    r[2] = low;
+    r[3] = high;
 }
 
 // A cell record of the spreadsheet's: the least and the greatest grade of its set.
-fn set_to_limits(r: &[u8; RECORD]) -> [u8; RECORD]
-    requires { Turnable Spreadsheet r.now }
-    ensures { result ≡ cell_as_other Spreadsheet r.now }
+fn set_to_limits(r: &mut [u8])
+    requires { (length r.old ≡ 16) × Turnable Spreadsheet r.old }
+    ensures { r.new ≡ cell_as_other Spreadsheet r.old }
 {
     let set = u16::from_le_bytes([r[2], r[3]]);
-    let mut turned = *r;
-    turned[0] = u8::from(TableKind::Cell(Edition::Ours));
-    turned[1] = grade_sets::least(set) as u8;
-    turned[2] = grade_sets::greatest(set) as u8;
-    turned[3] = 0;
-    turned
+    r[0] = u8::from(TableKind::Cell(Edition::Ours));
+    r[1] = grade_sets::least(set) as u8;
+    r[2] = grade_sets::greatest(set) as u8;
+    r[3] = 0;
 }
 
 // A record as one of the other edition. Any but a cell stays.
-fn turn_record(r: &[u8; RECORD], edition: Edition) -> [u8; RECORD]
-    requires { at r.now 0 ≡ cell_kind edition → Turnable edition r.now }
-    ensures { result ≡ record_as_other edition r.now }
+fn turn_record(r: &mut [u8], edition: Edition)
+    requires { (length r.old ≡ 16) × (at r.old 0 ≡ cell_kind edition → Turnable edition r.old) }
+    ensures { r.new ≡ record_as_other edition r.old }
 {
-    if r[0] != u8::from(TableKind::Cell(edition)) {
-        return *r;
-    }
-    match edition {
-        Edition::Ours => limits_to_set(r),
-        Edition::Spreadsheet => set_to_limits(r),
+    if r[0] == u8::from(TableKind::Cell(edition)) {
+        match edition {
+            Edition::Ours => limits_to_set(r),
+            Edition::Spreadsheet => set_to_limits(r),
+        }
     }
 }
 
-// The records of a file, each turned, at a buffer's front. Its places are counted: of what is
-// written to a slice's chunks, as_chunks_mut promises nothing.
-fn turn_records(file: &[u8], out: &mut [u8], edition: Edition)
-    requires room { length file.now ≤ length out.old }
-    requires turnable { AllTurnable edition file.now (length file.now / 16) }
-    ensures { out.new ≡ file_as_other edition file.now ++ drop (16 * (length file.now / 16)) out.old }
+// The first records of a buffer, each where it stands. By number: of what is written to a slice's chunks, as_chunks_mut
+// promises nothing.
+fn turn_records(out: &mut [u8], count: usize, edition: Edition)
+    requires { (16 * count ≤ length out.old) × AllTurnable edition out.old count }
+    ensures { out.new ≡ map_records (record_as_other edition) out.old 0 count ++ drop (16 * count) out.old }
 {
-    for (k, r) in file.as_chunks::<RECORD>().0.iter().enumerate() {
+    for k in 0..count {
         let a = RECORD * k;
         let b = a + RECORD;
-        out[a..b].copy_from_slice(&turn_record(r, edition));
+        turn_record(&mut out[a..b], edition);
     }
 }
 
@@ -77,6 +72,7 @@ pub fn convert(file: &[u8], out: &mut [u8], edition: Edition) -> Result<(), Refu
     if out.len() < file.len() {
         return Err(Refusal::ShortBuffer);
     }
-    turn_records(file, out, edition);
+    fill::unload(file, 0, out, file.len());
+    turn_records(out, file.len() / RECORD, edition);
     Ok(())
 }

@@ -7,6 +7,8 @@ use lib.Bits.{bit_or}
 use lib.Dec.{T}
 use lib.ListN.{length}
 use Rattle.std.specs.List.{filter, fold, list_any, slice_range}
+use Rattle.std.specs.Int.Bits.{or_zero_r}
+use Rattle.rules.specs.Bytes.{pick}
 use Rattle.rules.specs.Cell.{has}
 use Rattle.laws.proofs.SetLaws.{has-none, has-or}
 use Rattle.laws.proofs.TestLaws.{passed, failed}
@@ -44,6 +46,19 @@ union_part w a n q h =
             f (bit_or s x) j ∙ ap (λ (b : Bool). b || list_any (λ x. q x && has x j) l) (has-or s x j)
             ∙ regroup (has s j) (has x j) (list_any (λ x. q x && has x j) l)
         go false f = f s j
+
+-- the same where none stands for a mask that does not pass
+pub union_picked : (w : List ℕ) (a n : ℕ) (q : ℕ → Bool) → a + n ≤ length w → Union n (part w a n) q (fold (λ s x. bit_or s (pick (q x) x 0)) 0 (slice_range w a (a + n)))
+union_picked w a n q h = subst (Union n (part w a n) q) (sym (picked (slice_range w a (a + n)) 0)) (union_part w a n q h)
+  where
+    picked : (l : List ℕ) (s : ℕ) → fold (λ s x. bit_or s (pick (q x) x 0)) s l ≡ fold bit_or s (filter q l)
+    picked [] s = refl
+    picked (x ∷ l) s = go (q x) (picked l)
+      where
+        go : (b : Bool) → ((r : ℕ) → fold (λ s x. bit_or s (pick (q x) x 0)) r l ≡ fold bit_or r (filter q l))
+            → fold (λ s x. bit_or s (pick (q x) x 0)) (bit_or s (pick b x 0)) l ≡ fold bit_or s (cond b (x ∷ filter q l) (filter q l))
+        go true f = f (bit_or s x)
+        go false f = ap (λ (r : ℕ). fold (λ s x. bit_or s (pick (q x) x 0)) r l) (or_zero_r s) ∙ f s
 
 -- over all of them
 pub union_whole : (w : List ℕ) (a n : ℕ) → a + n ≤ length w → Union n (part w a n) every (fold bit_or 0 (slice_range w a (a + n)))

@@ -1,5 +1,6 @@
 // What the n masks at a say. None of these writes.
 ghost use Rattle.std.specs.Prelude.{◌+◌, ◌≤◌, ◌<◌, ◌≡◌, length};
+ghost use Rattle.rules.specs.Bytes.{pick};
 ghost use Rattle.rules.specs.Cell.{has};
 ghost use Rattle.tables.specs.Part.{part};
 ghost use Rattle.masks.specs.Masks.{is_full_from, some_full, Union, every};
@@ -28,6 +29,14 @@ pub fn seen(w: &[u8], a: usize, n: usize) -> u8
     w[a..a + n].iter().fold(0, |found, mask| found | mask)
 }
 
+// A mask with condition i, or none in its place. A choice and no `filter`: many are taken at a time.
+fn if_member(mask: u8, i: usize) -> u8
+    requires { i < 8 }
+    ensures { result ≡ pick (has mask i) mask 0 }
+{
+    if places::has_member(mask, i) { mask } else { 0 }
+}
+
 // The conditions that some mask has beside condition i: the others join it.
 pub fn seen_beside(w: &[u8], a: usize, n: usize, i: usize) -> u8
     requires { (i < 8) × (a + n ≤ length w.now) }
@@ -35,6 +44,5 @@ pub fn seen_beside(w: &[u8], a: usize, n: usize, i: usize) -> u8
 {
     w[a..a + n]
         .iter()
-        .filter(|mask| places::has_member(**mask, i))
-        .fold(0, |found, mask| found | mask)
+        .fold(0, |found, mask| found | if_member(*mask, i))
 }

@@ -69,7 +69,7 @@ module _ (ks : List ℕ) (m k : ℕ) (r : List ℕ) where
 
 -- a gate whose row passed: what is left of its tests
 module _ (ks : List ℕ) (m k : ℕ) (r net : List ℕ) where
-  pub gate_passed : (by : Gate) → kind_of by ≡ at r 0 → all 16 (λ j. named 2 j || eqb (at r j) 0) ≡ true
+  pub gate_passed : (by : Gate) → kind_of by ≡ at r 0 → all 16 (λ j. named (kind_of by) j || eqb (at r j) 0) ≡ true
       → (record_formed ks m k r && ceiling_is (record_ceiling (ceiling_at net) (record_of ks r)) r)
       ≡ (gate_sound k r && ceiling_is (combine by (ceiling_at net (word r 4)) (ceiling_at net (word r 6))) r)
   gate_passed Min e t = search rules

@@ -12,12 +12,12 @@ use tables::{grades, tests};
 
 const MAX_RECORDS: usize = 4096;
 
-// By a record's kind, 1 for each byte that must be zero. The rows of the two gates are equal.
+// By a record's kind, 1 for each byte that must be zero.
 const MUST_BE_ZERO: [[u8; RECORD]; 4] = [
-    [0, 0, 0, 1, 1, 1, 1, 1, 1, 1, 1, 1, 1, 1, 1, 1],
-    [0, 0, 0, 1, 1, 1, 1, 1, 0, 0, 0, 0, 0, 0, 0, 0],
-    [0, 1, 0, 1, 0, 0, 0, 0, 1, 1, 1, 1, 1, 1, 1, 1],
-    [0, 1, 0, 1, 0, 0, 0, 0, 1, 1, 1, 1, 1, 1, 1, 1],
+    [0, 0, 0, 1, 1, 1, 1, 1, 1, 1, 1, 1, 1, 1, 1, 1], // a constant
+    [0, 0, 0, 1, 1, 1, 1, 1, 0, 0, 0, 0, 0, 0, 0, 0], // a literal
+    [0, 1, 0, 1, 0, 0, 0, 0, 1, 1, 1, 1, 1, 1, 1, 1], // min
+    [0, 1, 0, 1, 0, 0, 0, 0, 1, 1, 1, 1, 1, 1, 1, 1], // max
 ];
 
 // A byte that must be zero, by its entry in the table; 0 for any other.
@@ -85,7 +85,7 @@ fn gate_sound(network: &[u8], r: &[u8; RECORD], k: usize, by: Gate) -> bool
 }
 
 // Whether r is sound as record k of a network. Each row is read by its own number: a constant table is laid out
-// anew wherever it is read by a number that is not known. So the first gate's row serves both.
+// anew wherever it is read by a number that is not known.
 fn record_sound(network: &[u8], r: &[u8; RECORD], ks: [u8; PLACES], m: u8, k: usize) -> bool
     requires { 16 * k ≤ length network.now }
     ensures { result ≡ (record_formed ks m k r.now && ceiling_is (record_ceiling (ceiling_at network.now) (record_of ks r.now)) r.now) }
@@ -93,7 +93,12 @@ fn record_sound(network: &[u8], r: &[u8; RECORD], ks: [u8; PLACES], m: u8, k: us
     match NetworkKind::try_from(r[0]) {
         Ok(NetworkKind::Constant) => row_sound(r, MUST_BE_ZERO[0]) && constant_sound(r, m),
         Ok(NetworkKind::Literal) => row_sound(r, MUST_BE_ZERO[1]) && literal_sound(r, ks, m),
-        Ok(NetworkKind::Gate(by)) => row_sound(r, MUST_BE_ZERO[2]) && gate_sound(network, r, k, by),
+        Ok(NetworkKind::Gate(Gate::Min)) => {
+            row_sound(r, MUST_BE_ZERO[2]) && gate_sound(network, r, k, Gate::Min)
+        }
+        Ok(NetworkKind::Gate(Gate::Max)) => {
+            row_sound(r, MUST_BE_ZERO[3]) && gate_sound(network, r, k, Gate::Max)
+        }
         Err(_) => false,
     }
 }

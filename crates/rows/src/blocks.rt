@@ -1,5 +1,5 @@
 // Blocks: the cells of a condition's lines that lie together, a row for each value.
-ghost use Rattle.std.specs.Prelude.{◌+◌, ◌*◌, ◌/◌, ◌<◌};
+ghost use Rattle.std.specs.Prelude.{◌+◌, ◌*◌, ◌/◌, ◌<◌, ◌≤◌, length};
 ghost use Rattle.rules.specs.Bytes.{tabulate};
 ghost use Rattle.rules.specs.Cell.{card, step};
 ghost use Rattle.tables.specs.Line.{line_best, Line, Spread, Block, along_lines};
@@ -117,6 +117,19 @@ pub fn along(
     }
 }
 
+// A grade at cells that lie together. Most runs are two cells, for which a call of memset is dear.
+fn run_fill(w: &mut [u8], grade: u8, a: usize, size: usize)
+    requires { a + size ≤ length w.old }
+    ensures { Laid w.old a (tabulate size (λ _. grade)) size w.new }
+{
+    if size == 2 {
+        w[a] = grade;
+        w[a + 1] = grade;
+        return;
+    }
+    fill::fill(w, grade, a, size);
+}
+
 // The extreme of each `size` of n grades that lie together, all along them.
 pub fn runs(
     lent: &[u8],
@@ -139,6 +152,6 @@ pub fn runs(
     // By number: both offsets come from it.
     for b in 0..count {
         let grade = grades::line_grade(lent, w, lines, from + size * b);
-        fill::fill(w, grade, to + size * b, size);
+        run_fill(w, grade, to + size * b, size);
     }
 }

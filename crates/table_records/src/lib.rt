@@ -222,13 +222,17 @@ fn first_seen() -> Seen
     }
 }
 
-// The verdict on all records of a file of an edition, one after the other.
+// The verdict on all records of a file of an edition, one after the other. With `?` what was seen would be taken apart
+// and put together for each.
 pub fn records(file: &[u8], edition: Edition) -> Result<Seen, Refusal>
     ensures { verdict_of seen_of result ≡ table_records edition file.now 0 (length file.now / 16) start }
 {
     let mut s = first_seen();
     for r in file.as_chunks::<RECORD>().0 {
-        s = judge_record(s, r, edition)?;
+        match judge_record(s, r, edition) {
+            Ok(seen) => s = seen,
+            Err(refusal) => return Err(refusal),
+        }
     }
     if s.shape.m == 0 {
         return Err(Refusal::RecordOrder);

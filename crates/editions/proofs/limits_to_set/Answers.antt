@@ -14,7 +14,7 @@ returns c =
     let high = at c.to_le_bytes.result 1 in
     let set : ℕ = span (at r 1) (at r 2) in
     let is : c.span-set.result ≡ set = c.span-set.ensures ∙ ap₂ span c.from.ensures c.from-2.ensures in
-    let below = span_below (at r 1) (at r 2) 16 c.requires.1 in
+    let below = span_below (at r 1) (at r 2) 16 c.requires.1.1 in
     let low-is : low ≡ set % 256 = omega (arith, ap (λ (l : List ℕ). at l 0) c.to_le_bytes.ensures, is) in
     let high-is : high ≡ set / 256 = omega (arith, ap (λ (l : List ℕ). at l 1) c.to_le_bytes.ensures, is, below) in
     four-sets r kind 0 low high (omega arith)

@@ -10,4 +10,4 @@ line_grade-grade-requires c =
 
 pub loop-b-preserved : goal.loop-b-preserved
 loop-b-preserved c =
-    (search rules, runs_more c.requires.0 c.loop-b-test.true c.requires.1 c.loop-b.invariant.1 (run-set c.args.greatest c.line_grade-grade.ensures c.fill.ensures))
+    (search rules, runs_more c.requires.0 c.loop-b-test.true c.requires.1 c.loop-b.invariant.1 (run-set c.args.greatest c.line_grade-grade.ensures c.run_fill.ensures))
