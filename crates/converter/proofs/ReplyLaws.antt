@@ -9,8 +9,6 @@ use Rattle.std.proofs.Common.{None, Some, IfSome}
 use Rattle.std.specs.Prelude.{Result, Ok, Err}
 use Rattle.std.specs.declared.option.Option.{Option}
 use Rattle.std.specs.Io.KnownBytes.{Appends}
-use Rattle.std.proofs.KnownBytes.{Appends-nil}
-use Rattle.io.specs.Counts.{IsPrefixLen}
 use Rattle.rules.specs.declared.Edition.{Edition}
 use Rattle.rules.specs.declared.Refusal.{Refusal}
 use Rattle.rules.specs.Editions.{convert_call}
@@ -22,11 +20,15 @@ use Rattle.listing.specs.Putting.{Put}
 use Rattle.listing.proofs.LongLaws.{front_turned}
 use Rattle.listing.proofs.PutLaws.{put-fits, put-taken, put_front}
 use Rattle.streams.specs.Filling.{Takes}
-use Rattle.converter.specs.Replying.{taken, sent, Replies, Says}
+use Rattle.converter.specs.Replying.{sent, Replies, Says}
 
--- a known reply
-pub reply_counts : {e : Edition} {file : List ℕ} {r : Result ℕ ℕ} {buffer : List ℕ} (s : Result ℕ ℕ) → r ≡ s → Replies e file r buffer → IsPrefixLen (taken s) buffer
-reply_counts {e} {file} {r} {buffer} s q p = subst (λ (x : Result ℕ ℕ). IsPrefixLen (taken x) buffer) q p.counts
+-- what is written on both streams is what the rules say of the file
+said_by : {e : Edition} {file : List ℕ} {o o' r r' : Option (List ℕ)} (x : Said) → x ≡ turned_from e file → Appends o o' x.output → Appends r r' x.error → Says e file o o' r r'
+said_by {e} {file} {o} {o'} {r} {r'} x same w v =
+    record {
+      written = subst (λ (y : Said). Appends o o' y.output) same w;
+      complained = subst (λ (y : Said). Appends r r' y.error) same v;
+    }
 
 module _ {e : Edition} {file out : List ℕ} {answer : Result (Unit {0}) Refusal} {out' : List ℕ} (c : Converts e file out answer out') (room : length file ≤ length out) where
   -- an output that is longer than the file makes no difference
@@ -54,28 +56,9 @@ module _ {e : Edition} {file out : List ℕ} {answer : Result (Unit {0}) Refusal
 pub input_said : {e : Edition} (known : Option (List ℕ)) (n : ℕ) (buffer : List ℕ) {o o' r r' : Option (List ℕ)} → 16528 < length buffer
     → Takes known (Ok n) buffer → Says e (take n buffer) o o' r r' → IfSome known (λ (file : List ℕ). Says e file o o' r r')
 input_said None n buffer long t s = tt
-input_said {e} (Some file) n buffer {o} {o'} {r} {r'} long t s =
-    let same : turned_from e (take n buffer) ≡ turned_from e file = ap (turned_from e) t ∙ front_turned (length buffer) file long e in
-    record {
-      written = subst (λ (x : Said). Appends o o' x.output) same s.written;
-      complained = subst (λ (x : Said). Appends r r' x.error) same s.complained;
-    }
+input_said {e} (Some file) n buffer long t s = said_by (turned_from e (take n buffer)) (ap (turned_from e) t ∙ front_turned (length buffer) file long e) s.written s.complained
 
--- a reply that was written to its end
-pub file_said : {e : Edition} {file : List ℕ} {a : Result ℕ ℕ} {n : ℕ} {buffer : List ℕ} {o o' r : Option (List ℕ)} → a ≡ Ok n → Replies e file a buffer
-    → Appends o o' (take n buffer) → Says e file o o' r r
-file_said {e} {file} {a} {n} {buffer} {o} {o'} {r} q p w =
-    let same = subst (λ (x : Result ℕ ℕ). sent x buffer ≡ turned_from e file) q p.says in
-    record {
-      written = subst (λ (x : Said). Appends o o' x.output) same w;
-      complained = subst (λ (x : Said). Appends r r x.error) same (Appends-nil r);
-    }
-
-pub refusal_said : {e : Edition} {file : List ℕ} {a : Result ℕ ℕ} {n : ℕ} {buffer : List ℕ} {o r r' : Option (List ℕ)} → a ≡ Err n → Replies e file a buffer
-    → Appends r r' (take n buffer) → Says e file o o r r'
-refusal_said {e} {file} {a} {n} {buffer} {o} {r} {r'} q p w =
-    let same = subst (λ (x : Result ℕ ℕ). sent x buffer ≡ turned_from e file) q p.says in
-    record {
-      written = subst (λ (x : Said). Appends o o x.output) same (Appends-nil o);
-      complained = subst (λ (x : Said). Appends r r' x.error) same w;
-    }
+-- a known reply that was written to its end, on its stream
+pub reply_said : {e : Edition} {file : List ℕ} {a b : Result ℕ ℕ} {buffer : List ℕ} {o o' r r' : Option (List ℕ)} → a ≡ b → Replies e file a buffer
+    → Appends o o' (sent b buffer).output → Appends r r' (sent b buffer).error → Says e file o o' r r'
+reply_said {e} {file} {a} {b} {buffer} q p = said_by (sent b buffer) (subst (λ (x : Result ℕ ℕ). sent x buffer ≡ turned_from e file) q p.says)

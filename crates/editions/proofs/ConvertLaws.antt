@@ -6,7 +6,7 @@ use native.Mathlib.Omega.{arith}
 use borrow.Rule.Slice.PartMut.{put_mid, Post-is}
 use lib.Dec.{T, leb}
 use Rattle.std.specs.Prelude.{Ok}
-use lib.ListN.{length, take, drop, set, length-append, length-drop}
+use lib.ListN.{length, take, drop, set}
 use lib.Seq.{take_at, drop_at, take-length, drop-drop}
 use Rattle.rules.specs.declared.Edition.{Edition}
 use Rattle.rules.specs.declared.Edition.TheVariants.{Ours, Spreadsheet}
@@ -40,9 +40,6 @@ module _ (e : Edition) (w : List ℕ) where
   turned-length k h = map-length (record_as_other e) w 0 k (λ j a b. other_length e (record_at w j) (record_length w j (omega arith)))
 
   module _ (k : ℕ) (out : List ℕ) (is : out ≡ turned k ++ drop (16 * k) w) (room : 16 * k ≤ length w) where
-    pub out-length : length out ≡ length w
-    out-length = ap length is ∙ length-append (turned k) (drop (16 * k) w) ∙ omega (arith, turned-length k room, length-drop (16 * k) w)
-
     behind : drop (16 * k) out ≡ drop (16 * k) w
     behind = ap (drop (16 * k)) is ∙ drop_at (turned k) (drop (16 * k) w) (16 * k) (turned-length k room)
 
